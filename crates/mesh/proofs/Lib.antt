@@ -1,1 +1,5 @@
+pub mod Rings
 pub mod Vertices
+pub mod Decide
+pub mod Orientations
+pub mod Borders

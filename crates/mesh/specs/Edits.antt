@@ -29,27 +29,30 @@ moved hs h to = linked (set hs to h) (h .twin) to
 
 -- ---- lay
 
+-- the four corners
+abbrev pub corners : List Vertex → Plan → List Vertex
+corners vs p =
+    set (set (set (set vs
+    0 (record { east = 0; north = 0; height = p .sw }))
+    1 (record { east = p .width; north = 0; height = p .se }))
+    2 (record { east = p .width; north = p .depth; height = p .ne }))
+    3 (record { east = 0; north = p .depth; height = p .nw })
+
+-- the faces (0, 1, 2) and (0, 2, 3)
+abbrev pub two-faces : List HalfEdge → List HalfEdge
+two-faces hs =
+    set (set (set (set (set (set hs
+    0 (half-edge 0 no-twin 0)) 1 (half-edge 1 no-twin 0)) 2 (half-edge 2 3 0))
+    3 (half-edge 0 2 0)) 4 (half-edge 2 no-twin 0)) 5 (half-edge 3 no-twin 0)
+
 -- the rectangle with its four corners, cut along the diagonal from corner 2 to corner 0
 unfoldable pub laid : Mesh → Plan → Mesh
-laid m p = record {
-  header = record { width = p .width; depth = p .depth; count = 4 };
-  vertices =
-      set (set (set (set (m .vertices)
-      0 (record { east = 0; north = 0; height = p .sw }))
-      1 (record { east = p .width; north = 0; height = p .se }))
-      2 (record { east = p .width; north = p .depth; height = p .ne }))
-      3 (record { east = 0; north = p .depth; height = p .nw });
-  half-edges =
-      set (set (set (set (set (set (m .half-edges)
-      0 (half-edge 0 no-twin 0)) 1 (half-edge 1 no-twin 0)) 2 (half-edge 2 3 0))
-      3 (half-edge 0 2 0)) 4 (half-edge 2 no-twin 0)) 5 (half-edge 3 no-twin 0);
-}
+laid m p = mesh (record { width = p .width; depth = p .depth; count = 4 }) (corners (m .vertices) p) (two-faces (m .half-edges))
 
 -- ---- add
 
 -- the face (a, b, c) of half-edges s, s + 1, s + 2 becomes (a, b, w); (b, c, w) and (c, a, w) follow at n
 unfoldable pub split-face : List HalfEdge → ℕ → ℕ → ℕ → List HalfEdge
-unfolding moved
 split-face hs s n w =
     let b = s + 1 in
     let c = s + 2 in
@@ -65,7 +68,6 @@ split-face hs s n w =
 -- w on the edge p → q: s and t become p → w and q → w, the next ones w → r and w → u; (w, q, r) and (w, p, u) follow at n;
 -- the four halves of the edge have its pin
 unfoldable pub split-edge : List HalfEdge → ℕ → ℕ → ℕ → List HalfEdge
-unfolding moved
 split-edge hs s n w =
     let t = half-at hs s .twin in
     let pin = half-at hs s .pin in

@@ -1,5 +1,5 @@
 -- Points of the plane, triangles, and which of two neighbours owns the points of a shared side.
-use Prim.Native.Nat.{ℕ, min}
+use Prim.Native.Nat.{ℕ, min, _≤_}
 use native.Mathlib.Nat.{min-le-right}
 use mathlib.Core.Bool.{Bool, true, false, _&&_, _||_}
 use lib.Dec.{eqb, ltb}
@@ -11,6 +11,10 @@ use Rattle.mesh.specs.declared.checked.CheckedVertex.{CheckedVertex}
 
 abbrev pub point : ℕ → ℕ → Point
 point e n = record { east = e; north = n }
+
+-- no coordinate is above 32,767
+abbrev pub In-plan : Point → Type 0
+In-plan a = (a .east ≤ 32767) × (a .north ≤ 32767)
 
 -- twice the signed area of the triangle a, b, c: above 0 if they go round counterclockwise
 unfoldable pub orientation : Point → Point → Point → ℤ

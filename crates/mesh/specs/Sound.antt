@@ -7,10 +7,11 @@ use lib.Dec.{T, eqb, leb, ltb}
 use lib.ListN.{length}
 use lib.IntN.{pos}
 use lib.Signed.{_<ℤ_}
-use Rattle.arith.specs.Ranges.{every, tally}
+use Rattle.std.specs.Options.{isSome}
+use Rattle.arith.specs.Ranges.{every, tally, first}
 use Rattle.mesh.specs.declared.Header.{Header}
 use Rattle.mesh.specs.declared.Point.{Point}
-use Rattle.mesh.specs.Geometry.{orientation, positive, place}
+use Rattle.mesh.specs.Geometry.{In-plan, orientation, positive, place}
 use Rattle.mesh.specs.Meshes.{Mesh, next, no-twin, used, faces, half, vertex, origin-point, twin-of, has-twin}
 
 -- ---- the facts
@@ -71,23 +72,41 @@ pub record Sound (m : Mesh) : Type 0 where
   pub border-unpinned : Each-half-edge m (λ s. twin-of m s ≡ no-twin → half m s .pin ≡ 0)
   pub four : tally (λ s. not (has-twin m s)) (used m) ≡ 4
 
+-- what a reader of the lists needs to know of their lengths
+pub record Roomy (m : Mesh) : Type 0 where
+  pub some : 4 ≤ m .header .count
+  pub few : m .header .count ≤ 1024
+  pub vertices-fit : m .header .count ≤ length (m .vertices)
+  pub half-edges-fit : used m ≤ length (m .half-edges)
+
+-- each half-edge in use starts from a vertex in use, whose coordinates are in range
+pub record Placed (m : Mesh) : Type 0 where
+  pub roomy : Roomy m
+  pub origins : Each-half-edge m (λ s. half m s .origin < m .header .count)
+  pub in-plan : (v : ℕ) → v < m .header .count → In-plan (place (vertex m v))
+
 -- ---- the test
 
 -- strictly inside the rectangle
 abbrev pub strictly-inside : Header → Point → Bool
 strictly-inside h w = ltb 0 (w .east) && ltb (w .east) (h .width) && ltb 0 (w .north) && ltb (w .north) (h .depth)
 
--- the header is in range, and lists of these lengths are long enough
-abbrev pub header-fits : Header → ℕ → ℕ → Bool
-header-fits h vertices half-edges =
-    leb 2 (h .width) && leb (h .width) 32767
-    && leb 2 (h .depth) && leb (h .depth) 32767
-    && leb 4 (h .count) && leb (h .count) 1024
-    && leb (h .count) vertices && leb (6 * (h .count - 3)) half-edges
+-- width and depth are 2 to 32,767
+abbrev pub extent-fits : ℕ → ℕ → Bool
+extent-fits w d = leb 2 w && leb w 32767 && leb 2 d && leb d 32767
+
+-- 4 to 1,024 vertices, and lists of these lengths are long enough
+abbrev pub lists-fit : Header → ℕ → ℕ → Bool
+lists-fit h vertices half-edges =
+    leb 4 (h .count) && leb (h .count) 1024 && leb (h .count) vertices && leb (6 * (h .count - 3)) half-edges
 
 -- vertex v stands at w
 abbrev pub stands-at : Mesh → Point → ℕ → Bool
 stands-at m w v = eqb (vertex m v .east) (w .east) && eqb (vertex m v .north) (w .north)
+
+-- a vertex in use stands at w
+unfoldable pub is-occupied : Mesh → Point → Bool
+is-occupied m w = isSome (first (stands-at m w) (m .header .count))
 
 abbrev pub corners-stand : Mesh → Bool
 corners-stand m =
@@ -110,24 +129,33 @@ border-agrees m s = Bool·beq (has-twin m s) (not (along-border m s))
 
 abbrev pub twins-agree : Mesh → ℕ → ℕ → Bool
 twins-agree m s t =
-    ltb t (used m) && eqb (twin-of m t) s
+    eqb (twin-of m t) s
     && eqb (half m t .origin) (half m (next s) .origin) && eqb (half m (next t) .origin) (half m s .origin)
     && eqb (half m t .pin) (half m s .pin)
 
 abbrev pub twin-fits : Mesh → ℕ → Bool
-twin-fits m s = not (has-twin m s) || twins-agree m s (twin-of m s)
+twin-fits m s = not (has-twin m s) || (ltb (twin-of m s) (used m) && twins-agree m s (twin-of m s))
 
 abbrev pub face-turns : Mesh → ℕ → Bool
 face-turns m f = positive (orientation (origin-point m (3 * f)) (origin-point m (3 * f + 1)) (origin-point m (3 * f + 2)))
 
-unfoldable pub is-sound : Mesh → Bool
-is-sound m =
-    header-fits (m .header) (length (m .vertices)) (length (m .half-edges))
+-- header, lists and vertices are in order, and each half-edge starts from a vertex
+abbrev pub is-placed : Mesh → Bool
+is-placed m =
+    extent-fits (m .header .width) (m .header .depth)
+    && lists-fit (m .header) (length (m .vertices)) (length (m .half-edges))
     && corners-stand m
     && every (vertex-fits m) (m .header .count)
     && every (origin-fits m) (used m)
-    && every (pin-fits m) (used m)
+
+-- the faces turn, and fit together along their half-edges
+abbrev pub is-joined : Mesh → Bool
+is-joined m =
+    every (pin-fits m) (used m)
     && every (border-agrees m) (used m)
     && every (twin-fits m) (used m)
     && every (face-turns m) (faces m)
     && eqb (tally (λ s. not (has-twin m s)) (used m)) 4
+
+unfoldable pub is-sound : Mesh → Bool
+is-sound m = is-placed m && is-joined m

@@ -1,9 +1,15 @@
 // A triangulated rectangle in memory that the caller lends with each call.
 ghost use mathlib.Core.Path.{_≡_};
 ghost use Rattle.mesh.specs.Geometry.{checked as clamped, place};
+ghost use Prim.Native.Nat.{_/_, _<_};
+ghost use Rattle.mesh.specs.Meshes.{next as after, previous as before};
 ghost use Rattle.mesh.specs.Refusals.{number as numbered};
 
 pub mod checked;
+pub mod edits;
+pub mod geometry;
+pub mod search;
+pub mod soundness;
 
 use checked::CheckedVertex;
 
@@ -126,4 +132,22 @@ impl Vertex {
             height: self.height.min(32767),
         }
     }
+}
+
+// The next half-edge of the same face.
+pub fn next(s: usize) -> usize
+    requires { ⌜ s < 65536 ⌝ }
+    ensures value { λ r. ⌜ r ≡ after s ⌝ }
+    ensures face { λ r. ⌜ r / 3 ≡ s / 3 ⌝ }
+{
+    if s % 3 == 2 { s - 2 } else { s + 1 }
+}
+
+// The one before.
+pub fn previous(s: usize) -> usize
+    requires { ⌜ s < 65536 ⌝ }
+    ensures value { λ r. ⌜ r ≡ before s ⌝ }
+    ensures face { λ r. ⌜ r / 3 ≡ s / 3 ⌝ }
+{
+    if s % 3 == 0 { s + 2 } else { s - 1 }
 }
