@@ -1,3 +1,4 @@
 pub mod Ring
 pub mod Bound
 pub mod Ranges
+pub mod Rising

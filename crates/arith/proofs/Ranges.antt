@@ -4,13 +4,12 @@ use native.Mathlib.Omega.{arith}
 use native.Mathlib.Numerals.{add-one}
 use native.Mathlib.Decide.{decLt}
 use mathlib.Core.Path.{_≡_, refl, sym, ap, ap₂, _∙_, subst}
-use mathlib.Core.List.{List, [], _∷_, _++_}
 use mathlib.Core.Bool.{Bool, true, false, _&&_, cond}
 use mathlib.Core.Logic.{_⊎_, inl, inr}
 use Rattle.std.specs.declared.option.Option.{Option}
 use Rattle.std.specs.declared.option.Option.the-variants.{Some, None}
 use Rattle.std.proofs.shelf.Tests.{both-ways, and-parts, and-from, and-left, and-right}
-use Rattle.arith.specs.Ranges.{every, tally, select, or-else, first, sum, sum-over}
+use Rattle.arith.specs.Ranges.{every, tally, or-else, first}
 
 -- a number below suc n is below n, or n itself
 pub last-or-below : (k n : ℕ) → k < suc n → (k < n) ⊎ (k ≡ n)
@@ -76,8 +75,15 @@ module _ (test : ℕ → Bool) where
       (λ b. first-stays i n (first-found i n b e t))
       (λ s. subst (λ (j : ℕ). first test (suc j) ≡ Some i) s (first-here i e t))
 
-  pub select-yes : (i : ℕ) → test i ≡ true → select test (i + 1) ≡ select test i ++ (i ∷ [])
-  select-yes i t = rw add-one (ap (λ b. cond b (select test i ++ (i ∷ [])) (select test i)) t)
+  first-next : (n : ℕ) (o : Option ℕ) (b : Bool) (k : ℕ) → or-else o b n ≡ Some k → (o ≡ Some k) ⊎ ((b ≡ true) × (n ≡ k))
+  first-next n (Some j) b k e = inl e
+  first-next n None true k e = inr (refl, cc)
+  first-next n None false k e = let d : _≡_ {A = ℕ} 0 1 = cc in absurd (omega arith)
 
-  pub select-no : (i : ℕ) → test i ≡ false → select test (i + 1) ≡ select test i
-  select-no i t = rw add-one (ap (λ b. cond b (select test i ++ (i ∷ [])) (select test i)) t)
+  -- the first that passes is one that passes
+  pub first-passes : (n k : ℕ) → first test n ≡ Some k → (k < n) × (test k ≡ true)
+  first-passes zero k e = let d : _≡_ {A = ℕ} 0 1 = cc in absurd (omega arith)
+  first-passes (suc n) k e =
+      either (first-next n (first test n) (test n) k e)
+      (λ f. let p = first-passes n k f in (omega arith, p .1))
+      (λ p. (omega (arith, p .1), ap test (sym (p .1)) ∙ p .0))
