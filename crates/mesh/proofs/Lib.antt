@@ -3,3 +3,4 @@ pub mod Vertices
 pub mod Decide
 pub mod Orientations
 pub mod Borders
+pub mod Indices

@@ -85,6 +85,12 @@ pub record Placed (m : Mesh) : Type 0 where
   pub origins : Each-half-edge m (λ s. half m s .origin < m .header .count)
   pub in-plan : (v : ℕ) → v < m .header .count → In-plan (place (vertex m v))
 
+-- every index that the half-edges in use hold lies within the lists
+pub record Indexed (m : Mesh) : Type 0 where
+  pub roomy : Roomy m
+  pub origins : Each-half-edge m (λ s. half m s .origin < m .header .count)
+  pub twins : Each-twin m (λ s t. t < used m)
+
 -- ---- the test
 
 -- strictly inside the rectangle
