@@ -4,3 +4,4 @@ pub mod Decide
 pub mod Orientations
 pub mod Borders
 pub mod Indices
+pub mod Laid
