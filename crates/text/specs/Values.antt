@@ -8,6 +8,7 @@ use Rattle.std.specs.declared.option.Option.{Option}
 use Rattle.std.specs.declared.option.Option.the-variants.{Some, None}
 use Rattle.std.specs.declared.result.Result.{Result}
 use Rattle.std.specs.declared.result.Result.the-variants.{Ok, Err}
+use Rattle.mesh.specs.declared.Refusal.{Refusal}
 use Rattle.mesh.specs.declared.Refusal.the-variants.{Values}
 use Rattle.text.specs.declared.LineFault.{LineFault}
 use Rattle.text.specs.Pieces.{pieces}
@@ -51,3 +52,13 @@ values-from field (f ∷ fs) = value-first field (value f) (values-from (suc fie
 -- the values of a line of n fields; a wrong count is a fault of the whole line
 unfoldable pub values : ℕ → List ℕ → Result (List ℕ) LineFault
 values n line = cond (eqb (length (pieces 32 line)) n) (values-from 1 (pieces 32 line)) (Err (bad-field 0))
+
+-- a refused value with its field
+abbrev pub in-field : Result ℕ Refusal → ℕ → Result ℕ LineFault
+in-field (Ok v) field = Ok v
+in-field (Err refusal) field = Err (record { field = field; refusal = refusal })
+
+-- the values that a reader left, if it had no fault
+abbrev pub read-into : Result (Unit {0}) LineFault → List ℕ → Result (List ℕ) LineFault
+read-into (Ok _) vs = Ok vs
+read-into (Err fault) vs = Err fault

@@ -4,7 +4,7 @@ ghost use mathlib.Core.Path.{_≡_};
 ghost use Prim.Native.Nat.{ℕ, _+_, _<_};
 ghost use lib.ListN.{length, getD};
 ghost use Rattle.std.specs.Options.{Cases};
-ghost use Rattle.text.specs.Pieces.{pieces as parted, Lacks};
+ghost use Rattle.text.specs.Pieces.{pieces, Lacks};
 
 // The bytes before the first separator and those after it, if there is one.
 pub fn cut(bytes: &[u8], separator: u8) -> Option<(&[u8], &[u8])>
@@ -18,11 +18,11 @@ pub fn cut(bytes: &[u8], separator: u8) -> Option<(&[u8], &[u8])>
     None
 }
 
-// How many separators there are: one fewer than pieces.
-pub fn separators(bytes: &[u8], separator: u8) -> usize
-    ensures { λ r. ⌜ r + 1 ≡ length (parted separator (now (bytes .entry))) ⌝ }
+// How many pieces there are: one more than separators.
+pub fn piece_count(bytes: &[u8], separator: u8) -> usize
+    ensures { λ r. ⌜ r ≡ length (pieces separator (now (bytes .entry))) ⌝ }
 {
-    let mut n = 0;
+    let mut n = 1;
     for b in bytes {
         if *b == separator {
             n += 1;

@@ -5,8 +5,8 @@ use lib.ListN.{length, getD, drop}
 use Rattle.std.proofs.shelf.Lists.{at-drop-more, at-drop-all}
 use Rattle.text.specs.Pieces.{pieces}
 use Rattle.text.proofs.Cuts.{length-at, length-past, pieces-empty}
-use Rattle.text.proofs.pieces.separators.Needs as need
-use Rattle.text.proofs.pieces.separators.Needs.{then-b-separator, else-b-separator}
+use Rattle.text.proofs.pieces.piece_count.Needs as need
+use Rattle.text.proofs.pieces.piece_count.Needs.{then-b-separator, else-b-separator}
 
 pub loop-b-again : need.loop-b-again
 loop-b-again c =
