@@ -1,5 +1,6 @@
 // Files of measured vertices, and reports of a mesh.
 mod fields;
+mod names;
 mod pieces;
 
 use mesh::Refusal;
