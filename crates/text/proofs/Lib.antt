@@ -1,3 +1,5 @@
 pub mod Numbers
 pub mod Cuts
 pub mod LineValues
+pub mod Overs
+pub mod Figures

@@ -1,3 +1,4 @@
 pub mod Pieces
 pub mod Values
 pub mod Lines
+pub mod Printing

@@ -1,7 +1,9 @@
 // Files of measured vertices, and reports of a mesh.
 mod fields;
+mod lines;
 mod names;
 mod pieces;
+mod printing;
 
 use mesh::Refusal;
 
