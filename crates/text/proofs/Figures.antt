@@ -5,9 +5,9 @@ use mathlib.Core.Path.{_≡_, refl, sym, ap, _∙_}
 use mathlib.Core.List.{List, [], _∷_, _++_}
 use lib.ListN.{length, set}
 use Rattle.std.proofs.shelf.Decimals.{decimal-digit, decimal-step, length-decimal-le}
-use Rattle.std.proofs.shelf.Lists.{length-push}
+use Rattle.std.proofs.shelf.Lists.{append-assoc, length-append, length-push}
 use Rattle.std.specs.Written.{decimal}
-use Rattle.text.specs.Printing.{over}
+use Rattle.text.specs.Printing.{number-line, over}
 use Rattle.text.proofs.Overs.{over-one, over-over, length-over}
 
 pub length-digit : (n : ℕ) → n < 10 → length (decimal n) ≡ 1
@@ -31,3 +31,16 @@ over-step xs at n h k fits =
     over-one (over xs at front) (at + length front) (48 + n % 10) (omega (arith, length-over xs at front (omega arith)))
     ∙ over-over xs at front (omega arith) ((48 + n % 10) ∷ [])
     ∙ ap (over xs at) (sym (decimal-step n h (omega arith)))
+
+pub length-line : (a b c : ℕ) → length (number-line a b c) ≡ length (decimal a) + length (decimal b) + length (decimal c) + 3
+length-line a b c =
+    omega (
+      arith,
+      length-append (decimal a) (32 ∷ (decimal b ++ (32 ∷ (decimal c ++ (10 ∷ []))))),
+      length-append (decimal b) (32 ∷ (decimal c ++ (10 ∷ []))),
+      length-append (decimal c) (10 ∷ []),
+    )
+
+-- the line as it is written, part by part
+pub line-parts : (a b c : ℕ) → ((((decimal a ++ (32 ∷ [])) ++ decimal b) ++ (32 ∷ [])) ++ decimal c) ++ (10 ∷ []) ≡ number-line a b c
+line-parts a b c = simp append-assoc

@@ -47,3 +47,17 @@ module _ (xs : List ℕ) (at : ℕ) (s : List ℕ) (fits : at + length s ≤ len
       ∙ ap (λ n. drop n xs) (add-assoc at (length s) (length t) ∙ ap (λ n. at + n) (sym (length-append s t)))
       in
       rw (front, back) (append-assoc (take at xs) s (t ++ drop (at + length (s ++ t)) xs) ∙ ap (λ ys. take at xs ++ ys) (sym (append-assoc s t (drop (at + length (s ++ t)) xs))))
+
+-- from xs to ys a text was written over what stood from `at` to n
+pub record Put (xs : List ℕ) (at : ℕ) (text : List ℕ) (ys : List ℕ) (n : ℕ) : Type 0 where
+  pub buffer : ys ≡ over xs at text
+  pub end : n ≡ at + length text
+
+-- one text after another
+pub put-more :
+    {xs : List ℕ} {at : ℕ} {s : List ℕ} {ys : List ℕ} {n : ℕ} (t : List ℕ) {zs : List ℕ} {m : ℕ} →
+    n ≤ length xs → Put xs at s ys n → zs ≡ over ys n t → m ≡ n + length t → Put xs at (s ++ t) zs m
+put-more {xs} {at} {s} {ys} {n} t {zs} {m} fits p e k = record {
+  buffer = e ∙ ap (λ bs. over bs n t) (p .buffer) ∙ ap (λ i. over (over xs at s) i t) (p .end) ∙ over-over xs at s (omega (arith, p .end)) t;
+  end = omega (arith, p .end, length-append s t);
+}

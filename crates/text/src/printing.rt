@@ -19,7 +19,8 @@ pub fn put_bytes(buffer: &mut [u8], at: usize, bytes: &[u8]) -> usize
 
 // How many digits a number has.
 pub fn number_length(n: u32) -> usize
-    ensures { λ r. ⌜ r ≡ length (decimal n) ⌝ }
+    ensures exact { λ r. ⌜ r ≡ length (decimal n) ⌝ }
+    ensures short { λ r. ⌜ r ≤ 10 ⌝ }
 {
     if n < 10 { 1 } else { number_length(n / 10) + 1 }
 }
@@ -37,4 +38,26 @@ pub fn put_number(buffer: &mut [u8], at: usize, n: u32) -> usize
     };
     buffer[last] = b'0' + (n % 10) as u8;
     last + 1
+}
+
+// How long a line of three numbers is.
+pub fn line_length(a: u32, b: u32, c: u32) -> usize
+    ensures exact { λ r. ⌜ r ≡ length (number-line a b c) ⌝ }
+    ensures short { λ r. ⌜ r ≤ 33 ⌝ }
+{
+    number_length(a) + number_length(b) + number_length(c) + 3
+}
+
+// Writes a line of three numbers from `at` on, and answers where it ends.
+pub fn put_line(buffer: &mut [u8], at: usize, a: u32, b: u32, c: u32) -> usize
+    requires { ⌜ at + length (number-line a b c) ≤ length (now buffer) ⌝ }
+    ensures end { λ r. ⌜ r ≡ at + length (number-line a b c) ⌝ }
+    ensures buffer { λ _. ⌜ now (buffer .exit) ≡ over (now (buffer .entry)) at (number-line a b c) ⌝ }
+{
+    let at = put_number(buffer, at, a);
+    let at = put_bytes(buffer, at, b" ");
+    let at = put_number(buffer, at, b);
+    let at = put_bytes(buffer, at, b" ");
+    let at = put_number(buffer, at, c);
+    put_bytes(buffer, at, b"\n")
 }
