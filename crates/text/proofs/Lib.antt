@@ -3,3 +3,4 @@ pub mod Cuts
 pub mod LineValues
 pub mod Overs
 pub mod Figures
+pub mod Prints

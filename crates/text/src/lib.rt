@@ -4,6 +4,7 @@ mod lines;
 mod names;
 mod pieces;
 mod printing;
+pub mod report;
 
 use mesh::Refusal;
 
