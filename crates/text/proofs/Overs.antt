@@ -61,3 +61,6 @@ put-more {xs} {at} {s} {ys} {n} t {zs} {m} fits p e k = record {
   buffer = e ∙ ap (λ bs. over bs n t) (p .buffer) ∙ ap (λ i. over (over xs at s) i t) (p .end) ∙ over-over xs at s (omega (arith, p .end)) t;
   end = omega (arith, p .end, length-append s t);
 }
+
+pub put-same : {xs : List ℕ} {at : ℕ} {s t : List ℕ} {ys : List ℕ} {n : ℕ} → s ≡ t → Put xs at s ys n → Put xs at t ys n
+put-same {xs} {at} {s} {t} {ys} {n} e p = record { buffer = p .buffer ∙ ap (over xs at) e; end = p .end ∙ ap (λ bs. at + length bs) e }

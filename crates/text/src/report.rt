@@ -53,3 +53,20 @@ fn faces_length(mesh: MeshRef) -> usize
     }
     length
 }
+
+// Writes the report of a mesh, and answers where it ends.
+fn write_faces(mesh: MeshRef, buffer: &mut [u8]) -> usize
+    requires some { ⌜ 4 ≤ seen mesh .header .count ⌝ }
+    requires few { ⌜ seen mesh .header .count ≤ 1024 ⌝ }
+    requires listed { ⌜ used (seen mesh) ≤ length (seen mesh .half-edges) ⌝ }
+    requires room { ⌜ length (faces-text (seen mesh)) ≤ length (now buffer) ⌝ }
+    ensures end { λ r. ⌜ r ≡ length (faces-text (seen (mesh .entry))) ⌝ }
+    ensures buffer { λ _. ⌜ now (buffer .exit) ≡ over (now (buffer .entry)) 0 (faces-text (seen (mesh .entry))) ⌝ }
+{
+    let mut at = put_bytes(buffer, 0, b"a b c\n");
+    for f in 0..2 * (mesh.header.count as usize - 3) {
+        let (a, b, c) = origins(mesh, f);
+        at = put_line(buffer, at, a, b, c);
+    }
+    at
+}
