@@ -4,3 +4,4 @@ pub mod LineValues
 pub mod Overs
 pub mod Figures
 pub mod Prints
+pub mod Scripts

@@ -2,3 +2,4 @@ pub mod Pieces
 pub mod Values
 pub mod Lines
 pub mod Printing
+pub mod Scripts

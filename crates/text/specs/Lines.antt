@@ -7,10 +7,12 @@ use lib.ListN.{getD}
 use Rattle.std.specs.declared.option.Option.{Option}
 use Rattle.std.specs.declared.option.Option.the-variants.{Some, None}
 use Rattle.std.specs.declared.result.Result.{Result}
+use Rattle.std.specs.declared.result.Result.the-variants.{Ok, Err}
 use Rattle.std.specs.Results.{mapped}
 use Rattle.std.specs.shelf.Text.{sameBytes}
 use Rattle.mesh.specs.declared.Plan.{Plan}
 use Rattle.mesh.specs.declared.Vertex.{Vertex}
+use Rattle.text.specs.declared.Fault.{Fault}
 use Rattle.text.specs.declared.LineFault.{LineFault}
 use Rattle.text.specs.declared.names.Columns.{Columns}
 use Rattle.text.specs.declared.names.Columns.the-variants.{EastNorthHeight, EastHeightNorth, NorthEastHeight, NorthHeightEast, HeightEastNorth, HeightNorthEast}
@@ -66,3 +68,8 @@ plan line = mapped plan-of (λ fault. fault) (values 6 line)
 -- each line after the third
 unfoldable pub vertex : Columns → List ℕ → Result Vertex LineFault
 vertex order line = mapped (λ vs. vertex-of order (getD vs 0 0) (getD vs 1 0) (getD vs 2 0)) (λ fault. fault) (values 3 line)
+
+-- a faulty line with its number
+abbrev pub in-line : {A : Type 0} → Result A LineFault → ℕ → Result A Fault
+in-line (Ok x) line = Ok x
+in-line (Err fault) line = Err (record { line = line; field = fault .field; refusal = fault .refusal })

@@ -1,11 +1,26 @@
 // The lines of values.
 ghost use mathlib.Core.Path.{_≡_};
-ghost use Rattle.text.specs.Lines.{plan, vertex, vertex-of};
+ghost use Rattle.text.specs.Lines.{in-line, plan, vertex, vertex-of};
+use crate::Fault;
 use crate::LineFault;
 use crate::fields::values;
 use crate::names::Columns;
 use mesh::Plan;
 use mesh::Vertex;
+
+// The line of a fault is added.
+pub fn in_line<T>(r: Result<T, LineFault>, line: u32) -> Result<T, Fault>
+    ensures { λ x. ⌜ x ≡ in-line r line ⌝ }
+{
+    match r {
+        Ok(x) => Ok(x),
+        Err(fault) => Err(Fault {
+            line,
+            field: fault.field,
+            refusal: fault.refusal,
+        }),
+    }
+}
 
 // The plan on line 2.
 pub fn read_plan(line: &[u8]) -> Result<Plan, LineFault>
