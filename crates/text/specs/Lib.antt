@@ -1,0 +1,5 @@
+pub mod Pieces
+pub mod Values
+pub mod Lines
+pub mod Printing
+pub mod Scripts
