@@ -5,3 +5,5 @@ pub mod Overs
 pub mod Figures
 pub mod Prints
 pub mod Scripts
+pub mod Exits
+pub mod Loads

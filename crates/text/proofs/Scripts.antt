@@ -7,11 +7,12 @@ use mathlib.Core.Bool.{true, false, cond}
 use lib.ListN.{length}
 use Rattle.std.specs.declared.option.Option.the-variants.{Some, None}
 use Rattle.std.specs.shelf.Text.{sameBytes}
+use Rattle.job.specs.declared.Call.the-variants.{Lay, Add}
 use Rattle.mesh.specs.declared.Refusal.the-variants.{Names, Values}
 use Rattle.text.specs.declared.names.Columns.{Columns}
 use Rattle.text.specs.Lines.{plan-names, columns, plan, vertex}
 use Rattle.text.specs.Pieces.{pieces, Lacks}
-use Rattle.text.specs.Scripts.{Ask, Script, lay, add, ends, stops, asked, left-over, from-vertices, by-columns, from-columns, from-plan, from-names, script}
+use Rattle.text.specs.Scripts.{Script, ends, stops, asked, left-over, from-vertices, by-columns, from-columns, from-plan, from-names, script}
 use Rattle.text.proofs.Cuts.{pieces-whole, pieces-cut, pieces-some, pieces-empty}
 
 -- what follows an ended line is at least one piece
@@ -47,8 +48,8 @@ names-right bytes l rest lacks e right = after-line from-names from-plan bytes l
 pub plan-unended : (bytes : List ℕ) → Lacks 10 bytes → from-plan (pieces 10 bytes) ≡ stops 2 0 Values
 plan-unended bytes lacks = ap from-plan (pieces-whole 10 bytes lacks)
 
-pub plan-line : (bytes l rest : List ℕ) → Lacks 10 l → bytes ≡ l ++ (10 ∷ rest) → from-plan (pieces 10 bytes) ≡ asked lay 2 (plan l) (from-columns (pieces 10 rest))
-plan-line bytes l rest lacks e = after-line from-plan (λ ps. asked lay 2 (plan l) (from-columns ps)) bytes l rest lacks e (λ two more. refl)
+pub plan-line : (bytes l rest : List ℕ) → Lacks 10 l → bytes ≡ l ++ (10 ∷ rest) → from-plan (pieces 10 bytes) ≡ asked Lay 2 (plan l) (from-columns (pieces 10 rest))
+plan-line bytes l rest lacks e = after-line from-plan (λ ps. asked Lay 2 (plan l) (from-columns ps)) bytes l rest lacks e (λ two more. refl)
 
 -- ---- line 3
 
@@ -70,6 +71,6 @@ vertices-unended order line (b ∷ bs) h lacks = ap (from-vertices order line) (
 
 pub vertices-line :
     (order : Columns) (line : ℕ) (bytes l rest : List ℕ) → Lacks 10 l → bytes ≡ l ++ (10 ∷ rest) →
-    from-vertices order line (pieces 10 bytes) ≡ asked add line (vertex order l) (from-vertices order (suc line) (pieces 10 rest))
+    from-vertices order line (pieces 10 bytes) ≡ asked Add line (vertex order l) (from-vertices order (suc line) (pieces 10 rest))
 vertices-line order line bytes l rest lacks e =
-    after-line (from-vertices order line) (λ ps. asked add line (vertex order l) (from-vertices order (suc line) ps)) bytes l rest lacks e (λ two more. refl)
+    after-line (from-vertices order line) (λ ps. asked Add line (vertex order l) (from-vertices order (suc line) ps)) bytes l rest lacks e (λ two more. refl)

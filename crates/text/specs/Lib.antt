@@ -3,3 +3,4 @@ pub mod Values
 pub mod Lines
 pub mod Printing
 pub mod Scripts
+pub mod Loads

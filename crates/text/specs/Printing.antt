@@ -10,8 +10,9 @@ use Rattle.std.specs.declared.result.Result.{Result}
 use Rattle.std.specs.declared.result.Result.the-variants.{Ok, Err}
 use Rattle.mesh.specs.Meshes.{Mesh, half, faces}
 use Rattle.mesh.specs.Refusals.{number}
+use Rattle.mesh.specs.Sound.{is-sound}
 use Rattle.mesh.specs.declared.Refusal.{Refusal}
-use Rattle.mesh.specs.declared.Refusal.the-variants.{Buffer}
+use Rattle.mesh.specs.declared.Refusal.the-variants.{Unsound, Buffer}
 use Rattle.text.specs.declared.Fault.{Fault}
 
 -- ---- texts
@@ -50,3 +51,12 @@ printed text buffer = cond (leb (length text) (length buffer)) (Ok (length text)
 -- what the buffer then holds: a text that does not fit changes nothing
 unfoldable pub buffer-after : List ℕ → List ℕ → List ℕ
 buffer-after text buffer = cond (leb (length text) (length buffer)) (over buffer 0 text) buffer
+
+-- ---- reports
+
+-- the answer of a report: an unsound mesh has none
+unfoldable pub reported : Mesh → List ℕ → Result ℕ Refusal
+reported m buffer = cond (is-sound m) (printed (faces-text m) buffer) (Err Unsound)
+
+unfoldable pub buffer-reported : Mesh → List ℕ → List ℕ
+buffer-reported m buffer = cond (is-sound m) (buffer-after (faces-text m) buffer) buffer

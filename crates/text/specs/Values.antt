@@ -53,8 +53,8 @@ values-from field (f ∷ fs) = value-first field (value f) (values-from (suc fie
 unfoldable pub values : ℕ → List ℕ → Result (List ℕ) LineFault
 values n line = cond (eqb (length (pieces 32 line)) n) (values-from 1 (pieces 32 line)) (Err (bad-field 0))
 
--- a refused value with its field
-abbrev pub in-field : Result ℕ Refusal → ℕ → Result ℕ LineFault
+-- a refusal with its field
+abbrev pub in-field : {A : Type 0} → Result A Refusal → ℕ → Result A LineFault
 in-field (Ok v) field = Ok v
 in-field (Err refusal) field = Err (record { field = field; refusal = refusal })
 

@@ -49,12 +49,12 @@ pub fn value(field: &[u8]) -> Result<u32, Refusal>
     read_on(digit(*first)?, rest)
 }
 
-// The field of a refused value is added.
-fn in_field(r: Result<u32, Refusal>, field: u32) -> Result<u32, LineFault>
+// The field of a refusal is added.
+pub fn in_field<T>(r: Result<T, Refusal>, field: u32) -> Result<T, LineFault>
     ensures { λ x. ⌜ x ≡ in-field r field ⌝ }
 {
     match r {
-        Ok(v) => Ok(v),
+        Ok(x) => Ok(x),
         Err(refusal) => Err(LineFault { field, refusal }),
     }
 }

@@ -1,6 +1,7 @@
 // Files of measured vertices, and reports of a mesh.
 mod fields;
 mod lines;
+pub mod load;
 mod names;
 mod pieces;
 mod printing;

@@ -2,8 +2,9 @@
 ghost use mathlib.Core.Path.{_≡_};
 ghost use Prim.Native.Nat.{_+_, _*_, _≤_, _<_};
 ghost use lib.ListN.{length};
-ghost use Rattle.mesh.specs.Meshes.{seen, used, half};
-ghost use Rattle.text.specs.Printing.{faces-text, fault-text, over, printed, buffer-after};
+ghost use Rattle.mesh.specs.Meshes.{seen, half};
+ghost use Rattle.mesh.specs.Sound.{Roomy};
+ghost use Rattle.text.specs.Printing.{faces-text, fault-text, over, printed, buffer-after, reported, buffer-reported};
 use crate::Fault;
 use crate::printing::line_length;
 use crate::printing::put_bytes;
@@ -41,13 +42,11 @@ fn origins(mesh: MeshRef, face: usize) -> (u32, u32, u32)
 
 // How long the report of a mesh is.
 fn faces_length(mesh: MeshRef) -> usize
-    requires some { ⌜ 4 ≤ seen mesh .header .count ⌝ }
-    requires few { ⌜ seen mesh .header .count ≤ 1024 ⌝ }
-    requires listed { ⌜ used (seen mesh) ≤ length (seen mesh .half-edges) ⌝ }
+    requires roomy { ⌜ Roomy (seen mesh) ⌝ }
     ensures { λ r. ⌜ r ≡ length (faces-text (seen (mesh .entry))) ⌝ }
 {
     let mut length = 6;
-    for f in 0..2 * (mesh.header.count as usize - 3) {
+    for f in 0..mesh.faces() {
         let (a, b, c) = origins(mesh, f);
         length += line_length(a, b, c);
     }
@@ -56,17 +55,29 @@ fn faces_length(mesh: MeshRef) -> usize
 
 // Writes the report of a mesh, and answers where it ends.
 fn write_faces(mesh: MeshRef, buffer: &mut [u8]) -> usize
-    requires some { ⌜ 4 ≤ seen mesh .header .count ⌝ }
-    requires few { ⌜ seen mesh .header .count ≤ 1024 ⌝ }
-    requires listed { ⌜ used (seen mesh) ≤ length (seen mesh .half-edges) ⌝ }
+    requires roomy { ⌜ Roomy (seen mesh) ⌝ }
     requires room { ⌜ length (faces-text (seen mesh)) ≤ length (now buffer) ⌝ }
     ensures end { λ r. ⌜ r ≡ length (faces-text (seen (mesh .entry))) ⌝ }
     ensures buffer { λ _. ⌜ now (buffer .exit) ≡ over (now (buffer .entry)) 0 (faces-text (seen (mesh .entry))) ⌝ }
 {
     let mut at = put_bytes(buffer, 0, b"a b c\n");
-    for f in 0..2 * (mesh.header.count as usize - 3) {
+    for f in 0..mesh.faces() {
         let (a, b, c) = origins(mesh, f);
         at = put_line(buffer, at, a, b, c);
     }
     at
+}
+
+// Writes the report of a mesh.
+pub fn report(mesh: MeshRef, buffer: &mut [u8]) -> Result<usize, Refusal>
+    ensures answer { λ r. ⌜ r ≡ reported (seen (mesh .entry)) (now (buffer .entry)) ⌝ }
+    ensures buffer { λ _. ⌜ now (buffer .exit) ≡ buffer-reported (seen (mesh .entry)) (now (buffer .entry)) ⌝ }
+{
+    if !mesh.is_sound() {
+        return Err(Refusal::Unsound);
+    }
+    if buffer.len() < faces_length(mesh) {
+        return Err(Refusal::Buffer);
+    }
+    Ok(write_faces(mesh, buffer))
 }
