@@ -35,6 +35,7 @@ fn refill<L: Worklist>(worklist: &mut L, mesh: MeshRef)
 }
 
 // A cost, an order of waiting and a lookahead; one above 2 counts as 2.
+#[derive(Drop)]
 pub struct Job<C: Cost, L: Worklist> {
     pub cost: C,
     pub worklist: L,

@@ -14,7 +14,7 @@ pub mod soundness;
 use checked::CheckedVertex;
 
 // The rectangle's extent and the number of vertices in use.
-#[derive(Clone, Copy)]
+#[derive(Clone, Copy, PartialEq, Eq, Debug)]
 pub struct Header {
     pub width: u32,
     pub depth: u32,
@@ -22,14 +22,14 @@ pub struct Header {
 }
 
 // A place in the plan.
-#[derive(Clone, Copy)]
+#[derive(Clone, Copy, PartialEq, Eq, Debug)]
 pub struct Point {
     pub east: u32,
     pub north: u32,
 }
 
 // A measured point of the ground.
-#[derive(Clone, Copy)]
+#[derive(Clone, Copy, PartialEq, Eq, Debug)]
 pub struct Vertex {
     pub east: u32,
     pub north: u32,
@@ -37,7 +37,7 @@ pub struct Vertex {
 }
 
 // A directed side of a face: the vertex it starts from, the half-edge that runs back (65,535 for none), 1 if its edge is pinned.
-#[derive(Clone, Copy)]
+#[derive(Clone, Copy, PartialEq, Eq, Debug)]
 pub struct HalfEdge {
     pub origin: u16,
     pub twin: u16,
@@ -45,7 +45,7 @@ pub struct HalfEdge {
 }
 
 // What a lay is asked for: the rectangle, and the heights of its corners.
-#[derive(Clone, Copy)]
+#[derive(Clone, Copy, PartialEq, Eq, Debug)]
 pub struct Plan {
     pub width: u32,
     pub depth: u32,
@@ -64,7 +64,7 @@ pub struct MeshRef<'a> {
 }
 
 // Why a call is not carried out.
-#[derive(Clone, Copy)]
+#[derive(Clone, Copy, PartialEq, Eq, Debug)]
 pub enum Refusal {
     // Width or depth is outside 2 to 32,767.
     Extent,

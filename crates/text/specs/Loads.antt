@@ -14,7 +14,9 @@ use Rattle.job.specs.declared.Answer.{Answer}
 use Rattle.job.specs.declared.Answer.the-variants.{Refused, Laid, Added}
 use Rattle.job.specs.Rule.{State, Rule}
 use Rattle.text.specs.declared.Fault.{Fault}
-use Rattle.text.specs.Scripts.{Script}
+use Rattle.mesh.specs.Meshes.{Mesh}
+use Rattle.text.specs.Printing.{fault-text, printed, buffer-after, reported, buffer-reported}
+use Rattle.text.specs.Scripts.{Script, script}
 
 abbrev pub fault : ℕ → ℕ → Refusal → Fault
 fault line field refusal = record { line = line; field = field; refusal = refusal }
@@ -41,3 +43,16 @@ Carried K Q lookahead s n (c ∷ cs) ending r s′ =
 -- from s, after n calls, with this script to go; the answer is the number of vertices added
 pub record Loads (K : Parts) (Q : Order) (lookahead : ℕ) (s : State) (n : ℕ) (todo : Script) (r : Result ℕ Fault) (s′ : State) : Type 0 where
   pub carried : Carried K Q lookahead s n (todo .calls) (todo .ending) r s′
+
+-- ---- a load and what is told of it
+
+-- after the load's answer r, with the mesh m, a text is put into the buffer: the report of the mesh, or that of the fault
+abbrev pub Told : Result ℕ Fault → Mesh → List ℕ → Result ℕ Refusal → List ℕ → Type 0
+Told (Ok added) m before a after = (a ≡ reported m before) × (after ≡ buffer-reported m before)
+Told (Err f) m before a after = (a ≡ printed (fault-text f) before) × (after ≡ buffer-after (fault-text f) before)
+
+-- a spot file is loaded from s, and the outcome told in the buffer
+pub record Drapes (K : Parts) (Q : Order) (lookahead : ℕ) (s : State) (text before : List ℕ) (a : Result ℕ Refusal) (after : List ℕ) (s′ : State) : Type 0 where
+  pub answer : Result ℕ Fault
+  pub loads : Loads K Q lookahead s 0 (script text) answer s′
+  pub told : Told answer (s′ .mesh) before a after

@@ -1,4 +1,5 @@
 // Files of measured vertices, and reports of a mesh.
+pub mod draping;
 mod fields;
 mod lines;
 pub mod load;
@@ -8,6 +9,8 @@ mod printing;
 pub mod report;
 
 use mesh::Refusal;
+use mesh::RefusalDebug;
+use mesh::RefusalPartialEq;
 
 // Why a line is refused, and in which of its fields, from 1; 0 is the whole line.
 #[derive(Clone, Copy)]
@@ -17,7 +20,7 @@ pub struct LineFault {
 }
 
 // Why a file is refused, on which line, from 1, and in which of its fields; field 0 is the whole line.
-#[derive(Clone, Copy)]
+#[derive(Clone, Copy, PartialEq, Eq, Debug)]
 pub struct Fault {
     pub line: u32,
     pub field: u32,
