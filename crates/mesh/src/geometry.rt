@@ -20,7 +20,7 @@ pub fn orientation(a: Point, b: Point, w: Point) -> i64
 }
 
 // Whether the side a → b keeps the points on it: it runs south, or exactly west.
-pub fn keeps(a: Point, b: Point) -> bool
+fn keeps(a: Point, b: Point) -> bool
     ensures { λ r. ⌜ r ≡ keeping a b ⌝ }
 {
     b.north < a.north || (b.north == a.north && b.east < a.east)

@@ -59,7 +59,7 @@ impl<'a> MeshRef<'a> {
     }
 
     // The half-edge of face f on whose line w lies.
-    pub fn crossed(self, w: Point, f: usize) -> Option<usize>
+    pub(crate) fn crossed(self, w: Point, f: usize) -> Option<usize>
         requires placed { ⌜ Placed (seen self) ⌝ }
         requires within { ⌜ f < face-count (seen self) ⌝ }
         ensures { λ r. ⌜ r ≡ crossed-side (seen (self .entry)) w f ⌝ }

@@ -53,7 +53,7 @@ impl<'a> MeshRef<'a> {
     }
 
     // Whether vertex v stands at w.
-    pub fn stands_at(self, w: Point, v: usize) -> bool
+    pub(crate) fn stands_at(self, w: Point, v: usize) -> bool
         requires { ⌜ v < length (seen self .vertices) ⌝ }
         ensures { λ r. ⌜ r ≡ stands-at (seen (self .entry)) w v ⌝ }
     {
@@ -162,7 +162,7 @@ impl<'a> MeshRef<'a> {
     }
 
     // Where half-edge s starts.
-    pub fn origin_point(self, s: usize) -> Point
+    pub(crate) fn origin_point(self, s: usize) -> Point
         requires placed { ⌜ Placed (seen self) ⌝ }
         requires within { ⌜ s < in-use (seen self) ⌝ }
         ensures value { λ r. ⌜ r ≡ origin-point (seen (self .entry)) s ⌝ }
@@ -313,6 +313,9 @@ impl<'a> MeshRef<'a> {
         ensures test { λ r. ⌜ r ≡ is-sound (seen (self .entry)) ⌝ }
         ensures decides { λ r. ⌜ (T r → Sound (seen (self .entry))) × (Sound (seen (self .entry)) → T r) ⌝ }
     {
-        self.is_placed() && self.is_joined()
+        if !self.is_placed() {
+            return false; // the rest would read outside the lists
+        }
+        self.is_joined()
     }
 }
