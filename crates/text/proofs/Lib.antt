@@ -7,3 +7,4 @@ pub mod Prints
 pub mod Scripts
 pub mod Exits
 pub mod Loads
+pub mod Written

@@ -4,3 +4,5 @@ pub mod Lines
 pub mod Printing
 pub mod Scripts
 pub mod Loads
+pub mod ReadBack
+pub mod Examples

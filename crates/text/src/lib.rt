@@ -1,6 +1,7 @@
 // Files of measured vertices, and reports of a mesh.
 pub mod draping;
 mod fields;
+pub mod laws;
 mod lines;
 pub mod load;
 mod names;
