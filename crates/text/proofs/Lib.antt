@@ -8,3 +8,4 @@ pub mod Scripts
 pub mod Exits
 pub mod Loads
 pub mod Written
+mod Examples

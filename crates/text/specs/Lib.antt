@@ -5,4 +5,3 @@ pub mod Printing
 pub mod Scripts
 pub mod Loads
 pub mod ReadBack
-pub mod Examples

@@ -8,9 +8,11 @@ ghost use Rattle.job.specs.declared.Call.the-variants.{Lay, Add};
 ghost use Rattle.job.specs.Rule.{state};
 ghost use Rattle.text.specs.Pieces.{pieces, Lacks};
 ghost use Rattle.text.specs.Loads.{fault, Loads};
+ghost use Rattle.text.specs.ReadBack.{Reads-back};
 ghost use Rattle.text.specs.Scripts.{halts, asks, from-vertices, from-columns, from-plan, script};
 use crate::Fault;
 use crate::fields::in_field;
+use crate::laws::reads_back;
 use crate::lines::in_line;
 use crate::lines::read_plan;
 use crate::lines::read_vertex;
@@ -143,9 +145,11 @@ pub fn load<C: Cost, L: Worklist>(
         (state (now (header .entry)) (now (vertices .entry)) (now («half_edges» .entry)) (waiting (now (job .entry) .worklist)))
         0 (script (now (text .entry))) r
         (state (now (header .exit)) (now (vertices .exit)) (now («half_edges» .exit)) (waiting (now (job .exit) .worklist))) ⌝ }
+    ensures read_back { λ _. ⌜ Reads-back ⌝ }
     ensures cost { λ _. ⌜ now (job .exit) .cost ≡ now (job .entry) .cost ⌝ }
     ensures lookahead { λ _. ⌜ now (job .exit) .lookahead ≡ now (job .entry) .lookahead ⌝ }
 {
+    let _ = reads_back();
     let rest = names_line(text)?;
     let (plan, rest) = plan_line(rest)?;
     let laid = job.lay(header, vertices, half_edges, plan);
