@@ -5,3 +5,4 @@ pub mod Orientations
 pub mod Borders
 pub mod Indices
 pub mod Laid
+pub mod Numbers
