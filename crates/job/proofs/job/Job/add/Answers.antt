@@ -1,26 +1,18 @@
-use mathlib.Core.Path.{_≡_, refl, sym, ap, subst, _∙_}
-use Rattle.mesh.specs.Edits.{added, added-in}
-use Rattle.mesh.specs.Meshes.{Mesh, mesh, interior}
-use Rattle.worklist.specs.Orders.{Refilled}
+use mathlib.Core.Path.{refl}
 use Rattle.job.specs.Rule.{state}
-use Rattle.job.specs.declared.Call.the-variants.{Add}
-use Rattle.job.proofs.Refusing.{taken}
+use Rattle.job.proofs.Refusing.{add-taken}
 use Rattle.job.proofs.job.Job.add.Needs as need
 
 pub returns : need.returns
-unfolding added
 returns g c =
-    let Q = g .L·Worklist .order in
-    let m = mesh (c .args .header .now) (c .args .vertices .now) (c .args .half-edges .now) in
-    let w = c .args .w in
+    let t = g .L·Worklist in
     let found = c .in-Continue-f .ensures tt in
-    let m′ = mesh (c .add .last .header) (c .add .last .vertices) (c .add .last .half-edges) in
-    let e : m′ ≡ added m w = c .add .ensures ∙ ap (added-in m w) (sym (found .1 .owned)) in
-    let ws = g .L·Worklist .waiting (c .refill .last .worklist) in
+    let before = state (c .args .header .now) (c .args .vertices .now) (c .args .half-edges .now) (t .waiting (c .args .self .now .worklist)) in
+    let after = state (c .add .last .header) (c .add .last .vertices) (c .add .last .half-edges) (t .waiting (c .refill .last .worklist)) in
     record {
       rule =
-          taken (g .C·Cost .parts (c .args .self .now .cost)) Q (c .args .self .now .lookahead) _ (Add w) _ _ (found .0)
-          (refl, (e, subst (λ (x : Mesh). Refilled Q (interior x) ws) e (c .refill .ensures)));
-      cost = refl;
-      lookahead = refl;
+          add-taken (g .C·Cost .parts (c .args .self .now .cost)) (t .order) (c .args .self .now .lookahead) before after
+          (c .args .w) (c .in-Continue-f .f) (found .0) (found .1 .owned) (c .add .ensures) (c .refill .ensures);
+      cost = refl {a = c .args .self .now .cost};
+      lookahead = refl {a = c .args .self .now .lookahead};
     }
