@@ -1,6 +1,6 @@
 -- The worked examples, by computation.
 use Prim.Native.Nat.{ℕ}
-use mathlib.Core.Path.{_≡_, refl, subst}
+use mathlib.Core.Path.{refl, subst}
 use mathlib.Core.List.{List, [], _∷_, _++_, append-nil, append-assoc}
 use Rattle.mesh.specs.declared.Refusal.{Refusal}
 use Rattle.mesh.specs.declared.Refusal.the-variants.{Extent, Height, TooShort, Unsound, Outside, Occupied, Full}
@@ -17,7 +17,7 @@ use Rattle.job.specs.declared.Answer.{Answer}
 use Rattle.job.specs.declared.Answer.the-variants.{Refused, Laid, Added}
 use Rattle.job.specs.Rule.{State, Decided, Rule, faults, refusal}
 use Rattle.job.proofs.Only.{rule-only, fifo-functional}
-use Rattle.worked.specs.Worked.{Worked, Exactly, Refuses, at, plan, zeros, blank, square, dotted, halved}
+use Rattle.worked.specs.Worked.{Worked, Exactly, Refuses, at, plan, blank, square, dotted, halved}
 
 -- first in, first out: what is put waits in that order
 fifo-puts : (ks xs : List ℕ) → Puts fifo xs ks (xs ++ ks)
