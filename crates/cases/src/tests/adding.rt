@@ -3,10 +3,7 @@ use super::site::*;
 use mesh::HalfEdge;
 use mesh::Header;
 use mesh::RefusalDebug;
-use mesh::RefusalPartialEq;
 use std::test::*;
-
-const LARGEST: u32 = 4294967295;
 
 fn half(origin: u16, twin: u16, pin: u8) -> HalfEdge {
     HalfEdge { origin, twin, pin }
@@ -39,7 +36,7 @@ fn add_refuses_a_wrong_header(rt: LibcRuntime) -> Result<(), Fail> {
         (4, 4, 3),
         (4, 4, 5),
         (4, 4, 1025),
-        (4, 4, LARGEST),
+        (4, 4, u32::MAX),
         (5, 4, 4),
         (4, 32768, 4),
     ] {
@@ -81,16 +78,16 @@ fn add_refuses_places(rt: LibcRuntime) -> Result<(), Fail> {
     for (east, north, height, number) in [
         (2, 2, 32768, 2),
         (4, 2, 32768, 2),
-        (2, 1, LARGEST, 2),
+        (2, 1, u32::MAX, 2),
         (4, 2, 0, 5),
         (0, 1, 0, 5),
         (2, 0, 0, 5),
         (2, 4, 0, 5),
         (0, 0, 0, 5),
         (4, 4, 0, 5),
-        (LARGEST, 2, 0, 5),
-        (2, LARGEST, 0, 5),
-        (LARGEST - 1, LARGEST, 0, 5),
+        (u32::MAX, 2, 0, 5),
+        (2, u32::MAX, 0, 5),
+        (u32::MAX - 1, u32::MAX, 0, 5),
         (2, 1, 0, 6),
         (2, 1, 7, 6),
     ] {

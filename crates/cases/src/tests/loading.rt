@@ -1,9 +1,11 @@
 // What load refuses, on which line and in which field, and what it keeps of the lines before.
 use super::site::*;
-use mesh::RefusalDebug;
+use mesh::VertexDebug;
+use mesh::VertexPartialEq;
 use std::alloc::Global;
 use std::test::*;
 use text::Fault;
+use text::FaultDebug;
 
 const NAMES: &str = "width depth sw se ne nw\n";
 
@@ -143,6 +145,24 @@ fn faults_for_want_of_room(rt: LibcRuntime) -> Result<(), Fail> {
     ] {
         let mut site = Site::blank(rt.alloc(), vertices, half_edges)?;
         check_eq(told(site.load(ONE.as_bytes())), fault)?;
+    }
+    Ok(())
+}
+
+#[test]
+fn columns_stand_in_any_order(rt: LibcRuntime) -> Result<(), Fail> {
+    for lines in [
+        "east north height\n1 2 3\n",
+        "east height north\n1 3 2\n",
+        "north east height\n2 1 3\n",
+        "north height east\n2 3 1\n",
+        "height east north\n3 1 2\n",
+        "height north east\n3 2 1\n",
+    ] {
+        let text = format!(rt.alloc(), "{PLAN}{lines}")?;
+        let mut site = Site::blank(rt.alloc(), 5, 12)?;
+        check_eq(site.load(text.as_bytes())?, 1)?;
+        check_eq(site.vertices.get(4).copied(), Some(vertex(1, 2, 3)))?;
     }
     Ok(())
 }

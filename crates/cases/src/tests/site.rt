@@ -26,19 +26,19 @@ use worklist::FifoWorklist;
 use worklist::Worklist;
 
 // What stands in memory that nothing was written to.
-pub const BLANK_HEADER: Header = Header {
+const BLANK_HEADER: Header = Header {
     width: 9,
     depth: 9,
     count: 9,
 };
 
-pub const BLANK_VERTEX: Vertex = Vertex {
+const BLANK_VERTEX: Vertex = Vertex {
     east: 9,
     north: 9,
     height: 9,
 };
 
-pub const BLANK_HALF_EDGE: HalfEdge = HalfEdge {
+const BLANK_HALF_EDGE: HalfEdge = HalfEdge {
     origin: 9,
     twin: 9,
     pin: 9,
@@ -64,7 +64,7 @@ pub fn vertex(east: u32, north: u32, height: u32) -> Vertex {
 }
 
 // The number of a refusal; 0 if the call is taken.
-pub fn refused<T: Drop>(r: Result<T, Refusal>) -> u32 {
+fn refused<T: Drop>(r: Result<T, Refusal>) -> u32 {
     match r {
         Ok(_) => 0,
         Err(refusal) => refusal.number(),
@@ -74,10 +74,10 @@ pub fn refused<T: Drop>(r: Result<T, Refusal>) -> u32 {
 // All that a call may change.
 #[derive(PartialEq, Eq, Debug, Drop)]
 pub struct State {
-    pub header: Header,
-    pub vertices: Vec<Vertex>,
-    pub half_edges: Vec<HalfEdge>,
-    pub waiting: Vec<u32>,
+    header: Header,
+    vertices: Vec<Vertex>,
+    half_edges: Vec<HalfEdge>,
+    waiting: Vec<u32>,
 }
 
 #[derive(Drop)]

@@ -58,7 +58,7 @@ fn report_refuses_no_mesh(rt: LibcRuntime) -> Result<(), Fail> {
 #[test]
 fn fault_line_needs_room(rt: LibcRuntime) -> Result<(), Fail> {
     let fault = Fault {
-        line: 4294967295,
+        line: u32::MAX,
         field: 10,
         refusal: Refusal::Values,
     };
