@@ -1,5 +1,5 @@
 -- What a mesh costs: a part for each face and a part for each interior edge.
-use Prim.Native.Nat.{ℕ, _+_, _*_, _^_, _≤_}
+use Prim.Native.Nat.{ℕ, _+_, _-_, _*_, _^_, _≤_, min}
 use mathlib.Core.Path.{_≡_}
 use lib.IntN.{ℤ, pos, _+ℤ_, _-ℤ_, _*ℤ_, natAbs}
 use Rattle.arith.specs.Ranges.{sum, sum-over}
@@ -67,3 +67,35 @@ volume a b l r =
 
 abbrev pub fold : Parts
 fold = record { face = λ a b c. 0; edge = λ a b l r. natAbs (volume a b l r) }
+
+-- ---- length
+
+abbrev pub square-gap : ℕ → ℕ → ℕ
+square-gap x y = ((x - y) + (y - x)) * ((x - y) + (y - x))
+
+-- the squared plan distance of an edge's ends
+abbrev pub length : Parts
+length = record {
+  face = λ a b c. 0;
+  edge = λ a b l r. square-gap (a .east) (b .east) + square-gap (a .north) (b .north);
+}
+
+-- ---- costs made of costs
+
+-- no part is above 2^48
+abbrev pub capped : ℕ → ℕ
+capped x = min x (2 ^ 48)
+
+-- the sum of two costs
+abbrev pub joint : Parts → Parts → Parts
+joint K L = record {
+  face = λ a b c. capped (K .face a b c + L .face a b c);
+  edge = λ a b l r. capped (K .edge a b l r + L .edge a b l r);
+}
+
+-- a cost times a weight; one above 16 counts as 16
+abbrev pub scaled : ℕ → Parts → Parts
+scaled w K = record {
+  face = λ a b c. capped (min w 16 * K .face a b c);
+  edge = λ a b l r. capped (min w 16 * K .edge a b l r);
+}

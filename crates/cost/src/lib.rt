@@ -6,6 +6,11 @@ ghost use lib.IntN.{ℤ, natAbs, _+ℤ_, _*ℤ_};
 ghost use Rattle.mesh.specs.Sound.{Indexed};
 ghost use Rattle.mesh.specs.Meshes.{seen, used, faces, twin-of};
 ghost use Rattle.cost.specs.Costs.{Parts, Lawful-cost, fold, distance, area as plan-area, volume as six-volume, end as checked-end, face-cost as cost-of-face, edge-cost as cost-of-edge, face-sum as sum-of-faces, edge-sum as sum-of-edges, total as whole};
+
+pub mod combined;
+pub mod laws;
+pub mod length;
+
 use arith::determinant;
 use arith::difference;
 use mesh::MeshRef;

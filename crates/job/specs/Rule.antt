@@ -15,12 +15,13 @@ use Rattle.mesh.specs.declared.Vertex.{Vertex}
 use Rattle.mesh.specs.declared.HalfEdge.{HalfEdge}
 use Rattle.mesh.specs.declared.Plan.{Plan}
 use Rattle.mesh.specs.declared.Refusal.{Refusal}
+use Rattle.mesh.specs.declared.Refusal.the-variants.{Unsound}
 use Rattle.mesh.specs.Geometry.{place}
 use Rattle.mesh.specs.Meshes.{Mesh, mesh, used, interior, owner}
 use Rattle.mesh.specs.Sound.{is-sound, extent-fits, strictly-inside, is-occupied}
 use Rattle.mesh.specs.Edits.{laid, added}
 use Rattle.mesh.specs.Refusals.{number}
-use Rattle.cost.specs.Costs.{Parts, total}
+use Rattle.cost.specs.Costs.{Parts, face-sum, edge-sum, total}
 use Rattle.worklist.specs.Orders.{Order, Refilled}
 use Rattle.job.specs.declared.Call.{Call}
 use Rattle.job.specs.declared.Call.the-variants.{Lay, Add}
@@ -106,3 +107,7 @@ answered answer (Err r) = Refused r
 abbrev pub Checked : {X : Type 0} → Option ℕ → Result X Refusal → (X → Type 0) → Type 0
 Checked o (Ok x) Found = (o ≡ None) × Found x
 Checked o (Err r) Found = o ≡ Some (number r)
+
+-- what the question for the cost answers: the sum over faces and the sum over interior edges, or that the mesh is unsound
+unfoldable pub asked : Parts → Mesh → Result (ℕ × ℕ) Refusal
+asked K m = cond (is-sound m) (Ok (face-sum K m, edge-sum K m)) (Err Unsound)

@@ -5,10 +5,12 @@ ghost use Rattle.mesh.specs.Sound.{Roomy};
 ghost use Rattle.worklist.specs.Orders.{Refilled};
 ghost use Rattle.job.specs.declared.Call.the-variants.{Lay, Add};
 ghost use Rattle.job.specs.declared.Answer.the-variants.{Laid, Added};
-ghost use Rattle.job.specs.Rule.{Rule, state, answered};
+ghost use Rattle.job.specs.Rule.{Rule, state, answered, asked};
 use crate::checks::check_add;
 use crate::checks::check_lay;
 use cost::Cost;
+use cost::edge_sum;
+use cost::face_sum;
 use cost::total;
 use mesh::HalfEdge;
 use mesh::Header;
@@ -108,5 +110,17 @@ impl<C: Cost, L: Worklist> Job<C, L> {
         };
         refill(&mut self.worklist, mesh);
         Ok(number)
+    }
+
+    // What the faces cost and what the interior edges cost.
+    pub fn cost(&self, mesh: MeshRef) -> Result<(u64, u64), Refusal>
+        ensures { λ r. ⌜ r ≡ asked (parts (now (self .entry) .cost)) (seen (mesh .entry)) ⌝ }
+    {
+        if !mesh.is_sound() {
+            return Err(Refusal::Unsound);
+        }
+        let faces = face_sum(&self.cost, mesh);
+        let edges = edge_sum(&self.cost, mesh);
+        Ok((faces, edges))
     }
 }

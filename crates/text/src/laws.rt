@@ -2,7 +2,7 @@
 ghost use Rattle.text.specs.ReadBack.{Reads-back};
 
 // A file that is written from a plan and vertices asks for exactly them.
-pub fn reads_back() -> u8
+pub(crate) fn reads_back() -> u8
     ensures { λ _. ⌜ Reads-back ⌝ }
 {
     0

@@ -44,7 +44,7 @@ const BLANK_HALF_EDGE: HalfEdge = HalfEdge {
     pin: 9,
 };
 
-pub fn flat(width: u32, depth: u32) -> Plan {
+pub(super) fn flat(width: u32, depth: u32) -> Plan {
     Plan {
         width,
         depth,
@@ -55,7 +55,7 @@ pub fn flat(width: u32, depth: u32) -> Plan {
     }
 }
 
-pub fn vertex(east: u32, north: u32, height: u32) -> Vertex {
+pub(super) fn vertex(east: u32, north: u32, height: u32) -> Vertex {
     Vertex {
         east,
         north,
@@ -73,7 +73,7 @@ fn refused<T: Drop>(r: Result<T, Refusal>) -> u32 {
 
 // All that a call may change.
 #[derive(PartialEq, Eq, Debug, Drop)]
-pub struct State {
+pub(super) struct State {
     header: Header,
     vertices: Vec<Vertex>,
     half_edges: Vec<HalfEdge>,
@@ -81,17 +81,21 @@ pub struct State {
 }
 
 #[derive(Drop)]
-pub struct Site {
+pub(super) struct Site {
     heap: Global,
-    pub header: Header,
-    pub vertices: Vec<Vertex>,
-    pub half_edges: Vec<HalfEdge>,
+    pub(super) header: Header,
+    pub(super) vertices: Vec<Vertex>,
+    pub(super) half_edges: Vec<HalfEdge>,
     job: Job<Fold, Fifo>,
 }
 
 impl Site {
     // Blank memory, and a worklist in which 5 and 3 wait.
-    pub fn blank(heap: Global, vertices: usize, half_edges: usize) -> Result<Site, AllocError> {
+    pub(super) fn blank(
+        heap: Global,
+        vertices: usize,
+        half_edges: usize,
+    ) -> Result<Site, AllocError> {
         let mut worklist = Fifo::new(heap)?;
         let _ = worklist.put(5);
         let _ = worklist.put(3);
@@ -109,13 +113,13 @@ impl Site {
     }
 
     // The flat 4 by 4 mesh, in lists of these lengths.
-    pub fn laid(heap: Global, vertices: usize, half_edges: usize) -> Result<Site, Fail> {
+    pub(super) fn laid(heap: Global, vertices: usize, half_edges: usize) -> Result<Site, Fail> {
         let mut site = Site::blank(heap, vertices, half_edges)?;
         site.lay(flat(4, 4))?;
         Ok(site)
     }
 
-    pub fn lay(&mut self, plan: Plan) -> Result<u64, Refusal> {
+    pub(super) fn lay(&mut self, plan: Plan) -> Result<u64, Refusal> {
         self.job.lay(
             &mut self.header,
             &mut self.vertices,
@@ -124,7 +128,7 @@ impl Site {
         )
     }
 
-    pub fn add(&mut self, w: Vertex) -> Result<u32, Refusal> {
+    pub(super) fn add(&mut self, w: Vertex) -> Result<u32, Refusal> {
         self.job.add(
             &mut self.header,
             &mut self.vertices,
@@ -133,7 +137,7 @@ impl Site {
         )
     }
 
-    pub fn load(&mut self, text: &[u8]) -> Result<u32, Fault> {
+    pub(super) fn load(&mut self, text: &[u8]) -> Result<u32, Fault> {
         load::load(
             &mut self.job,
             &mut self.header,
@@ -143,7 +147,7 @@ impl Site {
         )
     }
 
-    pub fn mesh(&self) -> MeshRef {
+    pub(super) fn mesh(&self) -> MeshRef {
         MeshRef {
             header: &self.header,
             vertices: &self.vertices,
@@ -151,20 +155,20 @@ impl Site {
         }
     }
 
-    pub fn set_half_edge(&mut self, s: usize, half_edge: HalfEdge) -> Result<(), Fail> {
+    pub(super) fn set_half_edge(&mut self, s: usize, half_edge: HalfEdge) -> Result<(), Fail> {
         check(s < self.half_edges.len())?;
         self.half_edges[s] = half_edge;
         Ok(())
     }
 
     // Checks that the vertex gets this number.
-    pub fn takes(&mut self, w: Vertex, number: u32) -> Result<(), Fail> {
+    pub(super) fn takes(&mut self, w: Vertex, number: u32) -> Result<(), Fail> {
         check_eq(self.add(w), Ok(number))?;
         check(self.mesh().is_sound())
     }
 
     // Checks that the lists are blank past this many vertices and half-edges.
-    pub fn is_blank_past(&self, vertices: usize, half_edges: usize) -> Result<(), Fail> {
+    pub(super) fn is_blank_past(&self, vertices: usize, half_edges: usize) -> Result<(), Fail> {
         for v in self.vertices.iter().skip(vertices) {
             check_eq(*v, BLANK_VERTEX)?;
         }
@@ -175,7 +179,7 @@ impl Site {
     }
 
     // The numbers that wait, each taken and put back.
-    pub fn waiting(&mut self) -> Result<Vec<u32>, AllocError> {
+    pub(super) fn waiting(&mut self) -> Result<Vec<u32>, AllocError> {
         let mut all = Vec::new(self.heap);
         for _ in 0..self.job.worklist.count() {
             if let Some(k) = self.job.worklist.take() {
@@ -186,7 +190,7 @@ impl Site {
         Ok(all)
     }
 
-    pub fn state(&mut self) -> Result<State, AllocError> {
+    pub(super) fn state(&mut self) -> Result<State, AllocError> {
         Ok(State {
             header: self.header,
             vertices: self.vertices.clone()?,
@@ -196,14 +200,14 @@ impl Site {
     }
 
     // Checks that lay is refused with this number and changes nothing.
-    pub fn refuses_plan(&mut self, plan: Plan, number: u32) -> Result<(), Fail> {
+    pub(super) fn refuses_plan(&mut self, plan: Plan, number: u32) -> Result<(), Fail> {
         let before = self.state()?;
         check_eq(refused(self.lay(plan)), number)?;
         check_eq(self.state()?, before)
     }
 
     // Checks that add is refused with this number and changes nothing.
-    pub fn refuses_vertex(&mut self, w: Vertex, number: u32) -> Result<(), Fail> {
+    pub(super) fn refuses_vertex(&mut self, w: Vertex, number: u32) -> Result<(), Fail> {
         let before = self.state()?;
         check_eq(refused(self.add(w)), number)?;
         check_eq(self.state()?, before)
