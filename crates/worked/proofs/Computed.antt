@@ -1,6 +1,6 @@
 -- The worked examples, by computation.
 use Prim.Native.Nat.{ℕ}
-use mathlib.Core.Path.{refl, subst}
+use mathlib.Core.Path.{_≡_, refl, subst}
 use mathlib.Core.List.{List, [], _∷_, _++_, append-nil, append-assoc}
 use Rattle.mesh.specs.declared.Refusal.{Refusal}
 use Rattle.mesh.specs.declared.Refusal.the-variants.{Extent, Height, TooShort, Unsound, Outside, Occupied, Full}
@@ -55,6 +55,10 @@ adds = exactly _ _ _ _ (refl, (refl, fifo-refilled (2 ∷ 4 ∷ 5 ∷ 7 ∷ []))
 adds-on-edge : Exactly square (Add (at 2 2 0)) (Added 4) halved
 unfolding everything
 adds-on-edge = exactly _ _ _ _ (refl, (refl, fifo-refilled (0 ∷ 2 ∷ 3 ∷ 4 ∷ [])))
+
+pub square-cost : 64 ≡ total fold (square .mesh)
+unfolding everything
+square-cost = refl
 
 pub worked : Worked
 unfolding everything
