@@ -1,4 +1,6 @@
 // Signed arithmetic on coordinates, in numbers that cannot overflow.
+#![tactic(auto)]
+
 ghost use Rattle.std.specs.Prelude.{◌≡◌, ◌^◌, ◌≤◌, ℤ, pos, ◌-ℤ◌, ◌*ℤ◌, unsigned_abs};
 
 // How far `to` lies beyond `from`: below 0 if it falls short.

@@ -1,4 +1,6 @@
 // cases: for each name among the arguments, what drape prints for the spot file NAME.in.
+#![tactic(auto)]
+
 use anyhow::anyhow;
 use cost::Fold;
 use job::job::Job;

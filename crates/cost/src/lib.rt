@@ -1,4 +1,6 @@
 // Costs of a mesh: a part for each face and a part for each interior edge.
+#![tactic(auto)]
+
 ghost use Rattle.std.specs.Prelude.{◌≡◌, ◌^◌, ◌<◌, ◌≤◌, ◌≢◌, ℤ, ◌+ℤ◌, ◌*ℤ◌, unsigned_abs};
 ghost use Rattle.mesh.specs.Sound.{Indexed};
 ghost use Rattle.mesh.specs.Meshes.{seen, used, faces, twin_of};

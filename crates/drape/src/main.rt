@@ -1,4 +1,6 @@
 // drape: reads a spot file from standard input, builds the mesh and prints its faces, or where and why the file is faulty.
+#![tactic(auto)]
+
 use anyhow::anyhow;
 use cost::Fold;
 use job::job::Job;

@@ -1,2 +1,4 @@
 // What flipping, pinning and unpinning write into the lists.
+#![tactic(auto)]
+
 pub mod flips;

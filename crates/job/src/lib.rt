@@ -1,4 +1,6 @@
 // A job: a cost, an order of waiting and a lookahead, at work on a mesh that the caller lends with each call.
+#![tactic(auto)]
+
 pub mod checks;
 pub mod job;
 

@@ -1,4 +1,6 @@
 // A triangulated rectangle in memory that the caller lends with each call.
+#![tactic(auto)]
+
 ghost use Rattle.std.specs.Prelude.{◌≡◌, ◌/◌, ◌<◌};
 ghost use Rattle.mesh.specs.Geometry.{checked as clamped, place};
 ghost use Rattle.mesh.specs.Meshes.{next as after, previous as before};

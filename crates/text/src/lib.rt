@@ -1,4 +1,6 @@
 // Files of measured vertices, and reports of a mesh.
+#![tactic(auto)]
+
 pub mod draping;
 mod fields;
 pub mod laws;

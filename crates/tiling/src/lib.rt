@@ -1,4 +1,6 @@
 // Which face owns a point; and that every sound mesh tiles its rectangle.
+#![tactic(auto)]
+
 ghost use Rattle.std.specs.Prelude.{◌≡◌, true, is_ok};
 ghost use Rattle.mesh.specs.Meshes.{seen};
 ghost use Rattle.mesh.specs.Sound.{Sound};

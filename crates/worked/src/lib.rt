@@ -1,4 +1,6 @@
 // Worked examples of the calls.
+#![tactic(auto)]
+
 ghost use Rattle.std.specs.Prelude.{◌≡◌};
 ghost use Rattle.cost.specs.Costs.{fold, total};
 ghost use Rattle.worked.specs.Worked.{Worked, square};

@@ -1,4 +1,6 @@
 // Worklists: the edges that wait for a trial, by their numbers.
+#![tactic(auto)]
+
 ghost use Rattle.std.specs.Prelude.{◌≡◌, ℕ, ◌<◌, ◌≤◌, true, false, List, [], length, IfOk, slice_index_or};
 ghost use Rattle.std.specs.VecDeque.{deque_capacity};
 ghost use Rattle.worklist.specs.Orders.{LawfulOrder, among, different, below, Put, TakenFirst, fifo, fifo_lawful};

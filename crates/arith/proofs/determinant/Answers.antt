@@ -17,18 +17,18 @@ fits_determinant p q r s hp hq hr hs =
     let d = abs_difference (p *ℤ q) (r *ℤ s) in
     omega (arith, ints)
 
-pub overflow-mul-result : goal.overflow-mul-result
-overflow-mul-result c =
+pub overflow_mul-result : goal.overflow_mul-result
+overflow_mul-result c =
     let p = c.ranges.p in let q = c.ranges.q in
     simp to_z-of_z (fits_product c.args.p c.args.q c.requires.p c.requires.q)
 
-pub overflow-mul-result-2 : goal.overflow-mul-result-2
-overflow-mul-result-2 c =
+pub overflow_mul-result-2 : goal.overflow_mul-result-2
+overflow_mul-result-2 c =
     let r = c.ranges.r in let s = c.ranges.s in
     simp to_z-of_z (fits_product c.args.r c.args.s c.requires.r c.requires.s)
 
-pub overflow-sub-result : goal.overflow-sub-result
-overflow-sub-result c =
+pub overflow_sub-result : goal.overflow_sub-result
+overflow_sub-result c =
     let p = c.ranges.p in let q = c.ranges.q in let r = c.ranges.r in let s = c.ranges.s in
     let f = fits_product c.args.p c.args.q c.requires.p c.requires.q in
     let g = fits_product c.args.r c.args.s c.requires.r c.requires.s in

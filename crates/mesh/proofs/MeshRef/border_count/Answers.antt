@@ -6,8 +6,8 @@ use Rattle.mesh.specs.Meshes.{seen, has_twin}
 use Rattle.mesh.proofs.MeshRef.border_count.Goals as goal
 use Rattle.mesh.proofs.MeshRef.border_count.Goals.{then-self-s, else-self-s}
 
-pub overflow-add-borders : goal.overflow-add-borders
-overflow-add-borders c = omega (arith, tally_le (λ s. not (has_twin (seen c.args.self) s)) c.loop-s.s, c.loop-s.invariant, c.requires.few)
+pub overflow_add-borders : goal.overflow_add-borders
+overflow_add-borders c = omega (arith, tally_le (λ s. not (has_twin (seen c.args.self) s)) c.loop-s.s, c.loop-s.invariant, c.requires.few)
 
 pub loop-s-preserved : goal.loop-s-preserved
 loop-s-preserved c =

@@ -4,5 +4,5 @@ use Rattle.mesh.specs.Meshes.{seen}
 use Rattle.mesh.specs.Sound.{face_turns}
 use Rattle.mesh.proofs.MeshRef.faces_turn.Given as goal
 
-abbrev pub invariant_loop_f : goal.invariant-loop-f
-invariant_loop_f l = every (face_turns (seen l.self)) l.f ≡ true
+abbrev pub invariant-loop-f : goal.invariant-loop-f
+invariant-loop-f l = every (face_turns (seen l.self)) l.f ≡ true

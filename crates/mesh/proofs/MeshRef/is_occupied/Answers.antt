@@ -5,15 +5,15 @@ use Rattle.mesh.specs.Meshes.{seen}
 use Rattle.mesh.specs.Sound.{stands_at, is_occupied}
 use Rattle.mesh.proofs.MeshRef.is_occupied.Goals as goal
 
-pub returns-then-stands-at : goal.returns-then-stands-at
+pub returns-then-stands_at : goal.returns-then-stands_at
 unfolding is_occupied
-returns-then-stands-at c =
+returns-then-stands_at c =
     sym (ap is_some (first_found (stands_at (seen c.args.self) c.args.w) c.loop-v.v c.args.self.header.now.count (omega arith)
-    c.loop-v.invariant (sym c.stands-at.ensures ∙ c.if-stands-at.true)))
+    c.loop-v.invariant (sym c.stands_at.ensures ∙ c.if-stands_at.true)))
 
 pub loop-v-preserved : goal.loop-v-preserved
 loop-v-preserved c =
-    first_none (stands_at (seen c.args.self) c.args.w) c.loop-v.v c.loop-v.invariant (sym c.stands-at.ensures ∙ c.if-stands-at.false)
+    first_none (stands_at (seen c.args.self) c.args.w) c.loop-v.v c.loop-v.invariant (sym c.stands_at.ensures ∙ c.if-stands_at.false)
 
 pub returns : goal.returns
 unfolding is_occupied

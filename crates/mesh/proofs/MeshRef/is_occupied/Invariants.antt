@@ -4,5 +4,5 @@ use Rattle.mesh.specs.Meshes.{seen}
 use Rattle.mesh.specs.Sound.{stands_at}
 use Rattle.mesh.proofs.MeshRef.is_occupied.Given as goal
 
-abbrev pub invariant_loop_v : goal.invariant-loop-v
-invariant_loop_v l = first (stands_at (seen l.self) l.w) l.v ≡ None
+abbrev pub invariant-loop-v : goal.invariant-loop-v
+invariant-loop-v l = first (stands_at (seen l.self) l.w) l.v ≡ None

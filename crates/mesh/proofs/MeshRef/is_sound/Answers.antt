@@ -4,19 +4,19 @@ use Rattle.mesh.specs.Sound.{is_sound, is_placed, is_joined}
 use Rattle.mesh.proofs.Decide.{placed_known, decided}
 use Rattle.mesh.proofs.MeshRef.is_sound.Goals as goal
 
-pub is-joined-requires : goal.is-joined-requires
-is-joined-requires c = placed_known (seen c.args.self) (sym c.is-placed.ensures ∙ c.if-not-is-placed.false)
+pub is_joined-requires : goal.is_joined-requires
+is_joined-requires c = placed_known (seen c.args.self) (sym c.is_placed.ensures ∙ c.if-not-is_placed.false)
 
 pub returns : goal.returns
 unfolding is_sound
 returns c =
     let m = seen c.args.self in
-    let e : c.is-joined.result ≡ is_sound m = c.is-joined.ensures ∙ sym (ap (λ b. b && is_joined m) (sym c.is-placed.ensures ∙ c.if-not-is-placed.false)) in
-    record { test = e; decides = decided m c.is-joined.result e }
+    let e : c.is_joined.result ≡ is_sound m = c.is_joined.ensures ∙ sym (ap (λ b. b && is_joined m) (sym c.is_placed.ensures ∙ c.if-not-is_placed.false)) in
+    record { test = e; decides = decided m c.is_joined.result e }
 
-pub returns-then-not-is-placed : goal.returns-then-not-is-placed
+pub returns-then-not-is_placed : goal.returns-then-not-is_placed
 unfolding is_sound
-returns-then-not-is-placed c =
+returns-then-not-is_placed c =
     let m = seen c.args.self in
-    let e : false ≡ is_sound m = sym (ap (λ b. b && is_joined m) (sym c.is-placed.ensures ∙ c.if-not-is-placed.true)) in
+    let e : false ≡ is_sound m = sym (ap (λ b. b && is_joined m) (sym c.is_placed.ensures ∙ c.if-not-is_placed.true)) in
     record { test = e; decides = decided m false e }

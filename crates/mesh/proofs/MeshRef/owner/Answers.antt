@@ -4,15 +4,15 @@ use Rattle.arith.proofs.Ranges.{first_none, first_found}
 use Rattle.mesh.specs.Meshes.{seen, faces, face_owns, owner}
 use Rattle.mesh.proofs.MeshRef.owner.Goals as goal
 
-pub returns-then-face-owns : goal.returns-then-face-owns
+pub returns-then-face_owns : goal.returns-then-face_owns
 unfolding owner
-returns-then-face-owns c =
+returns-then-face_owns c =
     sym (first_found (face_owns (seen c.args.self) c.args.w) c.loop-f.f (faces (seen c.args.self)) (omega arith)
-    c.loop-f.invariant (sym c.face-owns.ensures ∙ c.if-face-owns.true))
+    c.loop-f.invariant (sym c.face_owns.ensures ∙ c.if-face_owns.true))
 
 pub loop-f-preserved : goal.loop-f-preserved
 loop-f-preserved c =
-    first_none (face_owns (seen c.args.self) c.args.w) c.loop-f.f c.loop-f.invariant (sym c.face-owns.ensures ∙ c.if-face-owns.false)
+    first_none (face_owns (seen c.args.self) c.args.w) c.loop-f.f c.loop-f.invariant (sym c.face_owns.ensures ∙ c.if-face_owns.false)
 
 pub returns : goal.returns
 unfolding owner

@@ -3,5 +3,5 @@ use Rattle.arith.specs.Ranges.{first}
 use Rattle.mesh.specs.Meshes.{seen, face_owns}
 use Rattle.mesh.proofs.MeshRef.owner.Given as goal
 
-abbrev pub invariant_loop_f : goal.invariant-loop-f
-invariant_loop_f l = first (face_owns (seen l.self) l.w) l.f ≡ None
+abbrev pub invariant-loop-f : goal.invariant-loop-f
+invariant-loop-f l = first (face_owns (seen l.self) l.w) l.f ≡ None

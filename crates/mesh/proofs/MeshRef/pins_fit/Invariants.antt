@@ -4,5 +4,5 @@ use Rattle.mesh.specs.Meshes.{seen}
 use Rattle.mesh.specs.Sound.{pin_fits}
 use Rattle.mesh.proofs.MeshRef.pins_fit.Given as goal
 
-abbrev pub invariant_loop_s : goal.invariant-loop-s
-invariant_loop_s l = every (pin_fits (seen l.self)) l.s ≡ true
+abbrev pub invariant-loop-s : goal.invariant-loop-s
+invariant-loop-s l = every (pin_fits (seen l.self)) l.s ≡ true

@@ -4,11 +4,11 @@ use Rattle.mesh.specs.Meshes.{seen, used}
 use Rattle.mesh.specs.Sound.{twin_fits}
 use Rattle.mesh.proofs.MeshRef.twins_fit.Goals as goal
 
-pub returns-then-not-twin-fits : goal.returns-then-not-twin-fits
-returns-then-not-twin-fits c =
+pub returns-then-not-twin_fits : goal.returns-then-not-twin_fits
+returns-then-not-twin_fits c =
     sym (every_stops (twin_fits (seen c.args.self)) c.loop-s.s (used (seen c.args.self)) (omega arith)
-    (sym c.twin-fits.ensures ∙ c.if-not-twin-fits.true))
+    (sym c.twin_fits.ensures ∙ c.if-not-twin_fits.true))
 
 pub loop-s-preserved : goal.loop-s-preserved
 loop-s-preserved c =
-    every_more (twin_fits (seen c.args.self)) c.loop-s.s c.loop-s.invariant (sym c.twin-fits.ensures ∙ c.if-not-twin-fits.false)
+    every_more (twin_fits (seen c.args.self)) c.loop-s.s c.loop-s.invariant (sym c.twin_fits.ensures ∙ c.if-not-twin_fits.false)

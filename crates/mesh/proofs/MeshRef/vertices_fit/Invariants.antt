@@ -4,5 +4,5 @@ use Rattle.mesh.specs.Meshes.{seen}
 use Rattle.mesh.specs.Sound.{vertex_fits}
 use Rattle.mesh.proofs.MeshRef.vertices_fit.Given as goal
 
-abbrev pub invariant_loop_v : goal.invariant-loop-v
-invariant_loop_v l = every (vertex_fits (seen l.self)) l.v ≡ true
+abbrev pub invariant-loop-v : goal.invariant-loop-v
+invariant-loop-v l = every (vertex_fits (seen l.self)) l.v ≡ true

@@ -6,8 +6,8 @@ use Rattle.mesh.specs.Edits.{crossed}
 use Rattle.mesh.proofs.Borders.{crossed_inner}
 use Rattle.mesh.proofs.edits.add.Goals as goal
 
-pub split-edge-requires : goal.split-edge-requires
-split-edge-requires c =
+pub split_edge-requires : goal.split_edge-requires
+split_edge-requires c =
     let m = mesh c.args.header.now c.args.vertices.now c.args.half_edges.now in
     let i = crossed_inner m c.requires.sound (place c.args.w) c.requires.inside c.args.f c.in-Some.s c.requires.within
     (sym (c.in-Some.ensures ∙ ap (λ (q : Point). crossed m q c.args.f) c.point.ensures)) in
