@@ -1,3 +1,3 @@
 pub mod Sums
 pub mod Multiples
-pub mod Laws
+pub mod CostLaws

@@ -122,7 +122,7 @@ fn end(mesh: MeshRef, s: usize) -> CheckedVertex
 fn face_cost<C: Cost>(cost: &C, mesh: MeshRef, f: usize) -> u64
     requires indexed { Indexed (seen mesh) }
     requires within { f < faces (seen mesh) }
-    ensures value { result ≡ cost_of_face (parts cost.now) (seen mesh.entry) f }
+    ensures value { result ≡ cost_of_face (C.parts cost.now) (seen mesh.entry) f }
 {
     cost.face_part(end(mesh, 3 * f), end(mesh, 3 * f + 1), end(mesh, 3 * f + 2))
 }
@@ -132,7 +132,7 @@ fn edge_cost<C: Cost>(cost: &C, mesh: MeshRef, s: usize) -> u64
     requires indexed { Indexed (seen mesh) }
     requires within { s < used (seen mesh) }
     requires twinned { twin_of (seen mesh) s ≢ 65535 }
-    ensures value { result ≡ cost_of_edge (parts cost.now) (seen mesh.entry) s }
+    ensures value { result ≡ cost_of_edge (C.parts cost.now) (seen mesh.entry) s }
 {
     let twin = mesh.half_edges[s].twin as usize;
     let left = end(mesh, previous(s));
@@ -143,7 +143,7 @@ fn edge_cost<C: Cost>(cost: &C, mesh: MeshRef, s: usize) -> u64
 // What the faces cost.
 pub fn face_sum<C: Cost>(cost: &C, mesh: MeshRef) -> u64
     requires indexed { Indexed (seen mesh) }
-    ensures value { result ≡ sum_of_faces (parts cost.now) (seen mesh.entry) }
+    ensures value { result ≡ sum_of_faces (C.parts cost.now) (seen mesh.entry) }
 {
     let mut sum = 0;
     for f in 0..mesh.faces() {
@@ -155,7 +155,7 @@ pub fn face_sum<C: Cost>(cost: &C, mesh: MeshRef) -> u64
 // What the interior edges cost, each counted at the lower of its two numbers.
 pub fn edge_sum<C: Cost>(cost: &C, mesh: MeshRef) -> u64
     requires indexed { Indexed (seen mesh) }
-    ensures value { result ≡ sum_of_edges (parts cost.now) (seen mesh.entry) }
+    ensures value { result ≡ sum_of_edges (C.parts cost.now) (seen mesh.entry) }
 {
     let mut sum = 0;
     for s in 0..mesh.used() {
@@ -170,7 +170,7 @@ pub fn edge_sum<C: Cost>(cost: &C, mesh: MeshRef) -> u64
 // What the mesh costs.
 pub fn total<C: Cost>(cost: &C, mesh: MeshRef) -> u64
     requires indexed { Indexed (seen mesh) }
-    ensures value { result ≡ whole (parts cost.now) (seen mesh.entry) }
+    ensures value { result ≡ whole (C.parts cost.now) (seen mesh.entry) }
 {
     let of_faces = face_sum(cost, mesh);
     let of_edges = edge_sum(cost, mesh);

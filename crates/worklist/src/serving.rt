@@ -52,7 +52,7 @@ impl Ordered for Lowest {
 // Carries out one ask.
 fn answer_one<L: Worklist>(worklist: &mut L, ask: Ask) -> Event
     ensures answers { asking result ≡ ask }
-    ensures happens { Step order (waiting worklist.old) result (waiting worklist.new) }
+    ensures happens { Step L.order (L.waiting worklist.old) result (L.waiting worklist.new) }
 {
     match ask {
         Ask::Clear => {
@@ -71,7 +71,7 @@ pub fn serve<L: Ordered>(
     asks: &[Ask],
 ) -> Result<Vec<Event>, AllocError>
     ensures served { MatchResult result
-        (λ v. Served L.Worklist.order precedence (L.Worklist.waiting worklist.old) asks.now v.items (L.Worklist.waiting worklist.new))
+        (λ v. Served L.Worklist.order L.precedence (L.Worklist.waiting worklist.old) asks.now v.items (L.Worklist.waiting worklist.new))
         (λ _. worklist.new ≡ worklist.old) }
 {
     let mut events = Vec::with_capacity(heap, asks.len())?;

@@ -15,13 +15,13 @@ fits_sum s p q hs hp hq =
     let k = abs_sum s (p *ℤ q) in
     omega (arith, ints)
 
-pub overflow-mul-result : goal.overflow-mul-result
-overflow-mul-result c =
+pub overflow_mul-result : goal.overflow_mul-result
+overflow_mul-result c =
     let p = c.ranges.p in let q = c.ranges.q in
     simp to_z-of_z (fits_product c.args.p c.args.q c.requires.p c.requires.q)
 
-pub overflow-add-result : goal.overflow-add-result
-overflow-add-result c =
+pub overflow_add-result : goal.overflow_add-result
+overflow_add-result c =
     let s = c.ranges.sum in let p = c.ranges.p in let q = c.ranges.q in
     let f = fits_product c.args.p c.args.q c.requires.p c.requires.q in
     simp to_z-of_z (fits_sum c.args.sum c.args.p c.args.q c.requires.sum c.requires.p c.requires.q)

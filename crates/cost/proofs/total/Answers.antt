@@ -4,13 +4,13 @@ use Rattle.cost.specs.Costs.{total}
 use Rattle.cost.proofs.Sums.{face_sum_bounded, edge_sum_bounded}
 use Rattle.cost.proofs.total.Goals as goal
 
-pub overflow-add-result : goal.overflow-add-result
-overflow-add-result g c =
+pub overflow_add-result : goal.overflow_add-result
+overflow_add-result g c =
     let K = g.C.Cost.parts c.args.cost.now in
     let law = g.met.C.Cost.lawful c.args.cost.now in
     let m = seen c.args.mesh in
-    omega (arith, c.face-sum-of-faces.ensures.value, c.edge-sum-of-edges.ensures.value, face_sum_bounded K law m c.requires.indexed, edge_sum_bounded K law m c.requires.indexed)
+    omega (arith, c.face_sum-of_faces.ensures.value, c.edge_sum-of_edges.ensures.value, face_sum_bounded K law m c.requires.indexed, edge_sum_bounded K law m c.requires.indexed)
 
 pub returns : goal.returns
 unfolding total
-returns g c = record { value = omega (arith, c.face-sum-of-faces.ensures.value, c.edge-sum-of-edges.ensures.value) }
+returns g c = record { value = omega (arith, c.face_sum-of_faces.ensures.value, c.edge_sum-of_edges.ensures.value) }

@@ -7,8 +7,8 @@ small_determinant : (p q r s : ℤ) → nat_abs p ≤ 32767 → nat_abs q ≤ 2 
 small_determinant p q r s hp hq hr hs =
     omega (arith, abs_difference (p *ℤ q) (r *ℤ s), abs_product p q, abs_product r s, mul-le-mul hp hq, mul-le-mul hr hs)
 
-pub plus-product-requires : goal.plus-product-requires
-plus-product-requires c =
+pub plus_product-requires : goal.plus_product-requires
+plus_product-requires c =
     let f : SFits w64 c.rise.result = search rules in
     let g : SFits w64 c.area.result = search rules in
     let h : SFits w64 c.rise-2.result = search rules in

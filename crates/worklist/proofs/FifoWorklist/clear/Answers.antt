@@ -3,18 +3,13 @@ use Rattle.std.proofs.lemmas.List.{get_or-replicate, length-replicate}
 use Rattle.worklist.specs.Orders.{among, different, below}
 use Rattle.worklist.proofs.FifoWorklist.clear.Goals as goal
 
-pub invariant-of-self : goal.invariant-of-self
-invariant-of-self c =
-    let e = c.clear.ensures.items in (
-      omega (arith, c.clear.ensures.capacity, c.args.self.now.room),
-      (
-        ap different e,
-        (
-          ap (below 6126) e,
-          (
-            simp length-replicate,
-            (λ k h. get_or-replicate 6126 k _ false h ∙ sym (ap (λ xs. among xs k) e), tt),
-          ),
-        ),
-      ),
-    )
+pub invariant_of-self : goal.invariant_of-self
+invariant_of-self c =
+    let e = c.clear.ensures.items in
+    record {
+      room = omega (arith, c.clear.ensures.capacity, c.args.self.now.room);
+      alone = ap different e;
+      low = ap (below 6126) e;
+      wide = simp length-replicate;
+      told = λ k h. get_or-replicate 6126 k _ false h ∙ sym (ap (λ xs. among xs k) e);
+    }

@@ -5,8 +5,8 @@ use Rattle.worklist.specs.Orders.{among, different, below}
 use Rattle.worklist.proofs.Tables.{pigeon, different_push, below_push, told_push}
 use Rattle.worklist.proofs.FifoWorklist.put.Goals as goal
 
-pub push-back-reserved-requires : goal.push-back-reserved-requires
-push-back-reserved-requires c =
+pub push_back_reserved-requires : goal.push_back_reserved-requires
+push_back_reserved-requires c =
     let l = c.args.self.now in
     let k = c.args.k in
     let absent : among l.queue.items k ≡ false = sym (l.told k c.if-k-ge6126.false) ∙ c.if-self-at.false in
@@ -15,25 +15,17 @@ push-back-reserved-requires c =
     (and_from _ _ (lt-ltb k 6126 c.if-k-ge6126.false) l.low) in
     omega (arith, few, l.queue.ok.0, l.room)
 
-pub invariant-of-self : goal.invariant-of-self
-invariant-of-self c =
+pub invariant_of-self : goal.invariant_of-self
+invariant_of-self c =
     let l = c.args.self.now in
     let k = c.args.k in
-    let e = c.push-back-reserved.ensures.items in
-    let absent : among l.queue.items k ≡ false = sym (l.told k c.if-k-ge6126.false) ∙ c.if-self-at.false in (
-      omega (arith, c.push-back-reserved.ensures.capacity, l.room),
-      (
-        ap different e ∙ different_push l.queue.items k l.alone absent,
-        (
-          ap (below 6126) e ∙ below_push 6126 l.queue.items k l.low (lt-ltb k 6126 c.if-k-ge6126.false),
-          (
-            length-set l.listed k _ ∙ l.wide,
-            (
-              λ j h. told_push l.listed l.queue.items k 6126 c.if-k-ge6126.false l.wide l.told j h
-                  ∙ sym (ap (λ xs. among xs j) e),
-              tt,
-            ),
-          ),
-        ),
-      ),
-    )
+    let e = c.push_back_reserved.ensures.items in
+    let absent : among l.queue.items k ≡ false = sym (l.told k c.if-k-ge6126.false) ∙ c.if-self-at.false in
+    record {
+      room = omega (arith, c.push_back_reserved.ensures.capacity, l.room);
+      alone = ap different e ∙ different_push l.queue.items k l.alone absent;
+      low = ap (below 6126) e ∙ below_push 6126 l.queue.items k l.low (lt-ltb k 6126 c.if-k-ge6126.false);
+      wide = length-set l.listed k _ ∙ l.wide;
+      told = λ j h. told_push l.listed l.queue.items k 6126 c.if-k-ge6126.false l.wide l.told j h
+              ∙ sym (ap (λ xs. among xs j) e);
+    }

@@ -6,17 +6,17 @@ use Rattle.worklist.proofs.serving.serve.Goals as goal
 pub loop-ask-preserved : goal.loop-ask-preserved
 loop-ask-preserved g c =
     let i = c.loop-ask.invariant in
-    let a = c.answer-one.ensures in
-    let p = c.push-reserved.ensures in (
+    let a = c.answer_one.ensures in
+    let p = c.push_reserved.ensures in (
       omega (arith, p.len, i.0),
       omega (arith, p.capacity, i.1),
       asked_more c.args.asks.now c.loop-ask.ask-index
-          (vec_items c.loop-ask.events) c.answer-one.result (vec_items c.push-reserved.new.self)
+          (vec_items c.loop-ask.events) c.answer_one.result (vec_items c.push_reserved.new.self)
           c.loop-ask-test.true p.items i.2 a.answers,
       steps_more g.L.Worklist.order (g.L.Worklist.waiting c.args.worklist.now)
           (vec_items c.loop-ask.events) (g.L.Worklist.waiting c.loop-ask.worklist)
-          c.answer-one.result (g.L.Worklist.waiting c.answer-one.new.worklist)
-          (vec_items c.push-reserved.new.self)
+          c.answer_one.result (g.L.Worklist.waiting c.answer_one.new.worklist)
+          (vec_items c.push_reserved.new.self)
           p.items i.3 a.happens,
     )
 

@@ -2,8 +2,8 @@ use Rattle.std.proofs.Common.{◌≡◌, ◌≤◌, length, take, vec_items, vec
 use Rattle.worklist.specs.Histories.{asked, Steps}
 use Rattle.worklist.proofs.serving.serve.Given as goal
 
-abbrev pub invariant_loop_ask : goal.invariant-loop-ask
-invariant_loop_ask g l =
+abbrev pub invariant-loop-ask : goal.invariant-loop-ask
+invariant-loop-ask g l =
     (vec_len l.events ≡ l.ask-index)
     × (length l.asks ≤ vec_capacity l.events)
     × (asked (vec_items l.events) ≡ take l.ask-index l.asks)

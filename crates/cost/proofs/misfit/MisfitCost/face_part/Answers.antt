@@ -7,26 +7,26 @@ use Rattle.cost.proofs.misfit.MisfitCost.face_part.Goals as goal
 
 pub loop-reading-init : goal.loop-reading-init
 loop-reading-init g c =
-    let i = c.into-iter-reading-iterator.result in
-    let same = c.into-iter-reading-iterator.ensures.into-iter-gives in
+    let i = c.into_iter-reading-iterator.result in
+    let same = c.into_iter-reading-iterator.ensures.into_iter_gives in
     let count : take_count i ≡ 4096 = omega (arith, ap take_count same, c.take-reading-items.ensures.count) in
     let rest : iter_rest (take_source i) ≡ g.R.Readings.list c.args.self.now.readings =
     ap (λ j. iter_rest (take_source j)) same ∙ ap iter_rest c.take-reading-items.ensures.source ∙ c.iter.ensures.rest ∙ c.lent.ensures.value in
     (tt, tt, omega (arith, ap₂ (λ n l. misfits c.args.a c.args.b c.args.c (take n l)) count rest))
 
-pub overflow-add-sum : goal.overflow-add-sum
-overflow-add-sum g c =
+pub overflow_add-sum : goal.overflow_add-sum
+overflow_add-sum g c =
     let i = c.loop-reading.reading-iterator in
     let j = c.next.new.self in
     let s = c.in-Some.ensures.steps in
-    omega (arith, c.loop-reading.invariant.2, c.misfit-at-sum.ensures.value, misfits_next c.args.a c.args.b c.args.c (take_count i) (take_count j) c.in-Some.reading.now (iter_rest (take_source i)) (iter_rest (take_source j)) s.0 s.1, face_small c.args.a c.args.b c.args.c (g.R.Readings.list c.args.self.now.readings))
+    omega (arith, c.loop-reading.invariant.2, c.misfit_at-sum.ensures.value, misfits_next c.args.a c.args.b c.args.c (take_count i) (take_count j) c.in-Some.reading.now (iter_rest (take_source i)) (iter_rest (take_source j)) s.0 s.1, face_small c.args.a c.args.b c.args.c (g.R.Readings.list c.args.self.now.readings))
 
 pub loop-reading-preserved : goal.loop-reading-preserved
 loop-reading-preserved g c =
     let i = c.loop-reading.reading-iterator in
     let j = c.next.new.self in
     let s = c.in-Some.ensures.steps in
-    (tt, tt, omega (arith, c.loop-reading.invariant.2, c.misfit-at-sum.ensures.value, misfits_next c.args.a c.args.b c.args.c (take_count i) (take_count j) c.in-Some.reading.now (iter_rest (take_source i)) (iter_rest (take_source j)) s.0 s.1))
+    (tt, tt, omega (arith, c.loop-reading.invariant.2, c.misfit_at-sum.ensures.value, misfits_next c.args.a c.args.b c.args.c (take_count i) (take_count j) c.in-Some.reading.now (iter_rest (take_source i)) (iter_rest (take_source j)) s.0 s.1))
 
 pub returns : goal.returns
 returns g c =

@@ -5,8 +5,8 @@ use Rattle.cost.specs.Costs.{misfits}
 use Rattle.cost.proofs.misfit.MisfitCost.face_part.Given as goal
 
 -- the sum so far, and what the readings left to look at will add
-abbrev pub invariant_loop_reading : goal.invariant-loop-reading
-invariant_loop_reading g l =
+abbrev pub invariant-loop-reading : goal.invariant-loop-reading
+invariant-loop-reading g l =
     (goal.iterator-loop-reading g).can_next l.reading-iterator
     × (goal.iterator-loop-reading g).is_finite l.reading-iterator
     × (l.sum + misfits l.a l.b l.c (take (take_count l.reading-iterator) (iter_rest (take_source l.reading-iterator)))

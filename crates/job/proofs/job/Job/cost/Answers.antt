@@ -2,7 +2,7 @@ use Rattle.std.proofs.Common.{◌≡◌, Ok, sym, ◌∙◌, ap₂}
 use Rattle.std.proofs.lemmas.Bool.{cond-true, cond-false}
 use Rattle.mesh.proofs.Decide.{true_T}
 use Rattle.mesh.proofs.Indices.{sound_indexed}
-use Rattle.cost.proofs.Laws.{cost_laws}
+use Rattle.cost.proofs.CostLaws.{cost_laws}
 use Rattle.job.specs.Rule.{asked}
 use Rattle.job.proofs.job.Job.cost.Goals as goal
 

@@ -12,13 +12,14 @@ returns-then-not-mark c =
     let same = ap (marked 0) (sym m.after) in
     record { after = subst (Put lowest (marked 0 l.listed) c.args.k false) same (put_refused lowest l.listed _ c.args.k l.wide (λ j h. sym (among_marked l.listed j)) m.value) }
 
-pub overflow-add-self : goal.overflow-add-self
-overflow-add-self c = let l = c.args.self.now in omega (arith, length_marked 0 l.listed, l.wide, l.counted)
+pub overflow_add-self : goal.overflow_add-self
+overflow_add-self c = let l = c.args.self.now in omega (arith, length_marked 0 l.listed, l.wide, l.counted)
 
-pub invariant-of-self-2 : goal.invariant-of-self-2
-invariant-of-self-2 c =
+pub invariant_of-self-2 : goal.invariant_of-self-2
+invariant_of-self-2 c =
     let m = c.if-not-mark.ensures in
-    tallied_put c.args.self.now c.args.k c.mark.new.listed c.min-self.result m.value m.after c.min-self.ensures
+    let t = tallied_put c.args.self.now c.args.k c.mark.new.listed c.min-self.result m.value m.after c.min-self.ensures in
+    record { wide = t.0; counted = t.1.0; passed = t.1.1.0 }
 
 pub returns : goal.returns
 returns c =
