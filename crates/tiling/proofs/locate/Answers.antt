@@ -7,10 +7,10 @@ use Rattle.tiling.specs.Tiles.{located, found}
 use Rattle.tiling.proofs.Tiled.{tiles, owner_found}
 use Rattle.tiling.proofs.locate.Goals as goal
 
-pub returns-then-not-is-sound : goal.returns-then-not-is-sound
+pub returns-then-not-is_sound : goal.returns-then-not-is_sound
 unfolding located
-returns-then-not-is-sound c =
-    let no = sym c.is-sound.ensures.test ∙ c.if-not-is-sound.true in
+returns-then-not-is_sound c =
+    let no = sym c.is_sound.ensures.test ∙ c.if-not-is_sound.true in
     record {
       tiles = tiles;
       answer = sym (cond-false _ _ _ no);
@@ -20,7 +20,7 @@ returns-then-not-is-sound c =
 pub returns-in-Some : goal.returns-in-Some
 unfolding located
 returns-in-Some c =
-    let yes = sym c.is-sound.ensures.test ∙ c.if-not-is-sound.false in
+    let yes = sym c.is_sound.ensures.test ∙ c.if-not-is_sound.false in
     record {
       tiles = tiles;
       answer = sym (cond-true _ _ _ yes ∙ ap found (sym c.in-Some.ensures));
@@ -31,7 +31,7 @@ pub returns-in-None : goal.returns-in-None
 unfolding located
 returns-in-None c =
     let m = seen c.args.mesh in
-    let yes = sym c.is-sound.ensures.test ∙ c.if-not-is-sound.false in
+    let yes = sym c.is_sound.ensures.test ∙ c.if-not-is_sound.false in
     let none : owner m c.args.w ≡ None = sym c.in-None.ensures in
     record {
       tiles = tiles;
