@@ -8,11 +8,11 @@ use Rattle.mesh.specs.Meshes.{Mesh, next, previous, no_twin, used, half, vertex,
 use Rattle.mesh.specs.Sound.{Sound}
 use Rattle.mesh.proofs.Rings.{next_used, previous_used}
 use Rattle.mesh.specs.Edits.{half_edge}
-use Rattle.edits.proofs.Relabelling.{relabel, stays}
-use Rattle.edits.proofs.Quadrilaterals.{Edge, Outside, outside_next, outside_previous, edge_of, not_none}
-use Rattle.edits.proofs.Standing.{after, from_other, turned_at}
-use Rattle.edits.proofs.FlipSound.{M, flipped_is, label_below, label_home, s_stays, t_stays, twin_at, flippable_known}
-use Rattle.edits.proofs.FlipLaws.{flip_keeps_sound}
+use Rattle.editing.proofs.Relabelling.{relabel, stays}
+use Rattle.editing.proofs.Quadrilaterals.{Edge, Outside, outside_next, outside_previous, edge_of, not_none}
+use Rattle.editing.proofs.Standing.{after, from_other, turned_at}
+use Rattle.editing.proofs.FlipSound.{M, flipped_is, label_below, label_home, s_stays, t_stays, twin_at, flippable_known}
+use Rattle.editing.proofs.FlipLaws.{flip_keeps_sound}
 use Rattle.cost.specs.Costs.{Parts, LawfulCost, end, edge_cost, face_sum, edge_sum, total}
 use Rattle.job.specs.Quads.{face_at, side_at, quad_cost, FlipIsLocal}
 use Rattle.job.proofs.Sides.{across, across_yes, across_no, twinned, lone, has_one}

@@ -7,7 +7,7 @@ use Rattle.arith.proofs.Reindexing.{masked, member, Few, sum_few, sum_split, sum
 use Rattle.mesh.specs.Meshes.{Mesh, next, previous, used, faces, twin_of, has_twin}
 use Rattle.mesh.specs.Sound.{Sound}
 use Rattle.mesh.proofs.Rings.{next_used, previous_used, next_previous, previous_next, next_first, next_second, next_third}
-use Rattle.edits.proofs.Quadrilaterals.{Edge, Outside, clear, next_next}
+use Rattle.editing.proofs.Quadrilaterals.{Edge, Outside, clear, next_next}
 use Rattle.cost.specs.Costs.{Parts, LawfulCost, end, face_cost, face_sum, edge_sum}
 use Rattle.job.specs.Quads.{face_at, side_at}
 use Rattle.job.proofs.Sides.{across, has_one, across_yes, across_twice, sum_across, side_across, sides_twice}

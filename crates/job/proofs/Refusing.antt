@@ -9,7 +9,7 @@ use Rattle.mesh.specs.Geometry.{place}
 use Rattle.mesh.specs.Meshes.{Mesh, half, twin_of, interior, owner}
 use Rattle.mesh.specs.Sound.{Indexed, is_sound, extent_fits, strictly_inside, is_occupied}
 use Rattle.mesh.specs.Edits.{laid, added, added_in}
-use Rattle.edits.specs.Flips.{is_free, convex, edge_number, turned, with_half_edges, flipped, with_pin, pinned}
+use Rattle.editing.specs.Flips.{is_free, convex, edge_number, turned, with_half_edges, flipped, with_pin, pinned}
 use Rattle.mesh.specs.Refusals.{number}
 use Rattle.mesh.proofs.Laid.{laid_indexed}
 use Rattle.cost.specs.Costs.{Parts, total}

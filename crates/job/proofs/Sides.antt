@@ -7,7 +7,7 @@ use Rattle.arith.proofs.Reindexing.{masked, sum_permuted, sum_selected}
 use Rattle.mesh.specs.Meshes.{Mesh, next, previous, no_twin, used, half, vertex, twin_of, has_twin, is_edge_number, interior}
 use Rattle.mesh.specs.Sound.{Sound}
 use Rattle.mesh.specs.Geometry.{checked}
-use Rattle.edits.proofs.Quadrilaterals.{Edge, edge_of, not_none, clear}
+use Rattle.editing.proofs.Quadrilaterals.{Edge, edge_of, not_none, clear}
 use Rattle.cost.specs.Costs.{Parts, LawfulCost, end, edge_cost, edge_sum}
 use Rattle.job.specs.Quads.{side_at}
 

@@ -9,11 +9,11 @@ use Rattle.mesh.specs.Sound.{Sound, Indexed}
 use Rattle.mesh.proofs.Decide.{sound_known}
 use Rattle.mesh.proofs.Indices.{sound_indexed}
 use Rattle.mesh.specs.Edits.{laid, added}
-use Rattle.edits.specs.Flips.{is_interior, is_free, convex, is_flippable, flipped}
-use Rattle.edits.proofs.LaidSound.{lay_makes_sound}
-use Rattle.edits.proofs.AddedSound.{add_keeps_sound}
-use Rattle.edits.proofs.FlipLaws.{flip_keeps_sound}
-use Rattle.edits.proofs.Pins.{pin_keeps_sound}
+use Rattle.editing.specs.Flips.{is_interior, is_free, convex, is_flippable, flipped}
+use Rattle.editing.proofs.LaidSound.{lay_makes_sound}
+use Rattle.editing.proofs.AddedSound.{add_keeps_sound}
+use Rattle.editing.proofs.FlipLaws.{flip_keeps_sound}
+use Rattle.editing.proofs.Pins.{pin_keeps_sound}
 use Rattle.cost.specs.Costs.{Parts}
 use Rattle.worklist.specs.Orders.{Order}
 use Rattle.job.specs.declared.Call.{Call}

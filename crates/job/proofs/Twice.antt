@@ -8,9 +8,9 @@ use Rattle.mesh.specs.Geometry.{checked}
 use Rattle.mesh.specs.Meshes.{Mesh, next, previous, used, vertex, twin_of, has_twin}
 use Rattle.mesh.specs.Sound.{Sound}
 use Rattle.mesh.proofs.Rings.{next_used, previous_used}
-use Rattle.edits.proofs.Quadrilaterals.{not_none}
-use Rattle.edits.proofs.FlipSound.{Flippable, flippable_known}
-use Rattle.edits.proofs.Exchange.{exchange, ex_home, ex_next, ex_previous, ex_below, ex_none, twice, twice_is, sound_twice, at_twice}
+use Rattle.editing.proofs.Quadrilaterals.{not_none}
+use Rattle.editing.proofs.FlipSound.{Flippable, flippable_known}
+use Rattle.editing.proofs.Exchange.{exchange, ex_home, ex_next, ex_previous, ex_below, ex_none, twice, twice_is, sound_twice, at_twice}
 use Rattle.cost.specs.Costs.{Parts, LawfulCost, end, edge_cost, total}
 use Rattle.job.specs.Quads.{face_at, side_at, TwoFlipsCost}
 use Rattle.job.proofs.Sides.{twinned, lone, has_one, sides_twice}

@@ -2,7 +2,7 @@
 use Rattle.std.specs.Prelude.{◌≡◌, ℕ, ◌+◌, true, cond}
 use Rattle.mesh.specs.Meshes.{Mesh, next, previous, twin_of, has_twin}
 use Rattle.mesh.specs.Sound.{Sound}
-use Rattle.edits.specs.Flips.{is_flippable, flipped}
+use Rattle.editing.specs.Flips.{is_flippable, flipped}
 use Rattle.cost.specs.Costs.{Parts, LawfulCost, end, edge_cost, total}
 
 -- the face of half-edge s

@@ -10,7 +10,7 @@ use Rattle.mesh.specs.Geometry.{place}
 use Rattle.mesh.specs.Meshes.{Mesh, mesh, used, half, interior, owner}
 use Rattle.mesh.specs.Sound.{Sound, is_sound, extent_fits, strictly_inside, is_occupied}
 use Rattle.mesh.specs.Edits.{laid, added}
-use Rattle.edits.specs.Flips.{is_interior, edge_number, is_free, convex, flipped, pinned}
+use Rattle.editing.specs.Flips.{is_interior, edge_number, is_free, convex, flipped, pinned}
 use Rattle.mesh.specs.Refusals.{number}
 use Rattle.cost.specs.Costs.{Parts, face_sum, edge_sum, total}
 use Rattle.worklist.specs.Orders.{Order, Refilled}

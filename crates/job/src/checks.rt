@@ -6,7 +6,7 @@ ghost use Rattle.job.specs.declared.Call.TheVariants.{Lay, Add, Flip, Pin, Unpin
 ghost use Rattle.job.specs.Checks.{Addable, Editable};
 ghost use Rattle.job.specs.Rule.{heights_fit, too_short, is_full as full, edge_faults, first_fault, refusal, Checked};
 
-use edits::flips::{is_convex, is_interior};
+use editing::flips::{is_convex, is_interior};
 use mesh::soundness::extent_fits;
 use mesh::{MeshRef, Plan, Refusal, Vertex};
 

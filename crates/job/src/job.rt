@@ -7,13 +7,13 @@ ghost use Rattle.cost.specs.Laws.{CostLaws};
 ghost use Rattle.worklist.specs.Orders.{Refilled};
 ghost use Rattle.job.specs.declared.Call.TheVariants.{Lay, Add, Flip, Pin, Unpin};
 ghost use Rattle.job.specs.declared.Answer.TheVariants.{Refused, Laid, Added, Flipped, Pinned, Unpinned};
-ghost use Rattle.edits.specs.FlipLaws.{FlipLaws, PinLaws};
+ghost use Rattle.editing.specs.FlipLaws.{FlipLaws, PinLaws};
 ghost use Rattle.job.specs.Quads.{FlipCostLaws};
 ghost use Rattle.job.specs.Rule.{Rule, state, answered, asked, KeepsSound};
 
 use crate::checks::{check_add, check_flip, check_lay, check_pin, check_unpin};
 use cost::{Cost, edge_sum, face_sum, total};
-use edits::flips;
+use editing::flips;
 use mesh::soundness::NO_TWIN;
 use mesh::{HalfEdge, Header, MeshRef, Plan, Refusal, Vertex, edits};
 use worklist::Worklist;
@@ -21,7 +21,7 @@ use worklist::Worklist;
 // Empties the worklist and puts every interior edge, in rising number.
 fn refill<L: Worklist>(worklist: &mut L, mesh: MeshRef)
     requires { Roomy (seen mesh) }
-    ensures { Refilled order (interior (seen mesh.entry)) (waiting worklist.new) }
+    ensures { Refilled L.order (interior (seen mesh.entry)) (L.waiting worklist.new) }
 {
     worklist.clear();
     for s in 0..mesh.used() {
@@ -49,10 +49,10 @@ impl<C: Cost, L: Worklist> Job<C, L> {
         half_edges: &mut [HalfEdge],
         plan: Plan,
     ) -> Result<u64, Refusal>
-        ensures rule { Rule (parts self.old.cost) order self.old.lookahead
-            (state header.old vertices.old half_edges.old (waiting self.old.worklist))
+        ensures rule { Rule (C.parts self.old.cost) L.order self.old.lookahead
+            (state header.old vertices.old half_edges.old (L.waiting self.old.worklist))
             (Lay plan) (answered Laid result)
-            (state header.new vertices.new half_edges.new (waiting self.new.worklist)) }
+            (state header.new vertices.new half_edges.new (L.waiting self.new.worklist)) }
         ensures sound { KeepsSound (lent header.old vertices.old half_edges.old)
             (answered Laid result) (lent header.new vertices.new half_edges.new) }
         ensures cost { self.new.cost ≡ self.old.cost }
@@ -84,10 +84,10 @@ impl<C: Cost, L: Worklist> Job<C, L> {
         half_edges: &mut [HalfEdge],
         w: Vertex,
     ) -> Result<u32, Refusal>
-        ensures rule { Rule (parts self.old.cost) order self.old.lookahead
-            (state header.old vertices.old half_edges.old (waiting self.old.worklist))
+        ensures rule { Rule (C.parts self.old.cost) L.order self.old.lookahead
+            (state header.old vertices.old half_edges.old (L.waiting self.old.worklist))
             (Add w) (answered Added result)
-            (state header.new vertices.new half_edges.new (waiting self.new.worklist)) }
+            (state header.new vertices.new half_edges.new (L.waiting self.new.worklist)) }
         ensures sound { KeepsSound (lent header.old vertices.old half_edges.old)
             (answered Added result) (lent header.new vertices.new half_edges.new) }
         ensures owned { answered Added result ≢ Refused Unowned }
@@ -122,10 +122,10 @@ impl<C: Cost, L: Worklist> Job<C, L> {
         s: u32,
     ) -> Result<(u64, u64), Refusal>
         ensures laws { (FlipLaws) × (FlipCostLaws) }
-        ensures rule { Rule (parts self.old.cost) order self.old.lookahead
-            (state header.old vertices.old half_edges.old (waiting self.old.worklist))
+        ensures rule { Rule (C.parts self.old.cost) L.order self.old.lookahead
+            (state header.old vertices.old half_edges.old (L.waiting self.old.worklist))
             (Flip s) (answered (λ c. Flipped c.0 c.1) result)
-            (state header.new vertices.new half_edges.new (waiting self.new.worklist)) }
+            (state header.new vertices.new half_edges.new (L.waiting self.new.worklist)) }
         ensures sound { KeepsSound (lent header.old vertices.old half_edges.old)
             (answered (λ c. Flipped c.0 c.1) result) (lent header.new vertices.new half_edges.new) }
         ensures cost { self.new.cost ≡ self.old.cost }
@@ -160,10 +160,10 @@ impl<C: Cost, L: Worklist> Job<C, L> {
         s: u32,
     ) -> Result<u32, Refusal>
         ensures laws { PinLaws }
-        ensures rule { Rule (parts self.old.cost) order self.old.lookahead
-            (state header.old vertices.old half_edges.old (waiting self.old.worklist))
+        ensures rule { Rule (C.parts self.old.cost) L.order self.old.lookahead
+            (state header.old vertices.old half_edges.old (L.waiting self.old.worklist))
             (Pin s) (answered Pinned result)
-            (state header.new vertices.new half_edges.new (waiting self.new.worklist)) }
+            (state header.new vertices.new half_edges.new (L.waiting self.new.worklist)) }
         ensures sound { KeepsSound (lent header.old vertices.old half_edges.old)
             (answered Pinned result) (lent header.new vertices.new half_edges.new) }
         ensures cost { self.new.cost ≡ self.old.cost }
@@ -188,10 +188,10 @@ impl<C: Cost, L: Worklist> Job<C, L> {
         half_edges: &mut [HalfEdge],
         s: u32,
     ) -> Result<u32, Refusal>
-        ensures rule { Rule (parts self.old.cost) order self.old.lookahead
-            (state header.old vertices.old half_edges.old (waiting self.old.worklist))
+        ensures rule { Rule (C.parts self.old.cost) L.order self.old.lookahead
+            (state header.old vertices.old half_edges.old (L.waiting self.old.worklist))
             (Unpin s) (answered Unpinned result)
-            (state header.new vertices.new half_edges.new (waiting self.new.worklist)) }
+            (state header.new vertices.new half_edges.new (L.waiting self.new.worklist)) }
         ensures sound { KeepsSound (lent header.old vertices.old half_edges.old)
             (answered Unpinned result) (lent header.new vertices.new half_edges.new) }
         ensures cost { self.new.cost ≡ self.old.cost }
@@ -217,7 +217,7 @@ impl<C: Cost, L: Worklist> Job<C, L> {
     // What the faces cost and what the interior edges cost; and what joint, scaled and misfit costs come to over a mesh, as laws.
     pub fn cost(&self, mesh: MeshRef) -> Result<(u64, u64), Refusal>
         ensures laws { CostLaws }
-        ensures sums { result ≡ asked (parts self.now.cost) (seen mesh.entry) }
+        ensures sums { result ≡ asked (C.parts self.now.cost) (seen mesh.entry) }
     {
         if !mesh.is_sound() {
             return Err(Refusal::Unsound);

@@ -5,7 +5,7 @@ use Rattle.mesh.specs.Meshes.{Mesh, next, used, half, vertex, has_twin}
 use Rattle.mesh.specs.Sound.{Sound, along_border}
 use Rattle.mesh.proofs.Decide.{T_true}
 use Rattle.mesh.proofs.Rings.{next_used}
-use Rattle.edits.proofs.Turns.{turns}
+use Rattle.editing.proofs.Turns.{turns}
 use Rattle.tiling.proofs.Runs.{runs_south, runs_north, runs_east, runs_west}
 
 -- the corner after corner v, counterclockwise

@@ -7,7 +7,7 @@ use Rattle.mesh.specs.Meshes.{next, previous, interior, owner}
 use Rattle.mesh.specs.Sound.{is_sound, is_occupied}
 use Rattle.mesh.specs.Edits.{moved, laid, added, split_face, split_edge}
 use Rattle.mesh.specs.Edits as edits
-use Rattle.edits.specs.Flips.{convex, turned, flipped, pinned}
+use Rattle.editing.specs.Flips.{convex, turned, flipped, pinned}
 use Rattle.mesh.specs.Refusals.{number}
 use Rattle.cost.specs.Costs.{fold, total, face_sum, edge_sum, weight, face_owns, face_height, misfit_at}
 use Rattle.worklist.specs.Orders.{fifo, Puts, Refilled}

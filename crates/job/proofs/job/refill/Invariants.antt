@@ -3,5 +3,5 @@ use Rattle.mesh.specs.Meshes.{seen, is_edge_number}
 use Rattle.worklist.specs.Orders.{Refilled}
 use Rattle.job.proofs.job.refill.Given as goal
 
-abbrev pub invariant_loop_s : goal.invariant-loop-s
-invariant_loop_s g l = let w = g.L.Worklist in Refilled w.order (select (is_edge_number (seen l.mesh)) l.s) (w.waiting l.worklist)
+abbrev pub invariant-loop-s : goal.invariant-loop-s
+invariant-loop-s g l = let w = g.L.Worklist in Refilled w.order (select (is_edge_number (seen l.mesh)) l.s) (w.waiting l.worklist)

@@ -8,16 +8,16 @@ use Rattle.job.proofs.Owned.{never_unowned}
 use Rattle.job.proofs.job.Job.add.Goals as goal
 
 -- a refused add
-pub returns-in-err-f : goal.returns-in-err-f
-returns-in-err-f g c =
+pub returns-in_err-f : goal.returns-in_err-f
+returns-in_err-f g c =
     let t = g.L.Worklist in
     let K = g.C.Cost.parts c.args.self.now.cost in
     let before = state c.args.header.now c.args.vertices.now c.args.half_edges.now (t.waiting c.args.self.now.worklist) in
-    let rule : Rule K t.order c.args.self.now.lookahead before (Add c.args.w) (answered Added c.from-residual.result) before = search rules in
+    let rule : Rule K t.order c.args.self.now.lookahead before (Add c.args.w) (answered Added c.from_residual.result) before = search rules in
     record {
       rule = rule;
       sound = search rules;
-      owned = never_unowned K t.order c.args.self.now.lookahead before before c.args.w (answered Added c.from-residual.result) rule;
+      owned = never_unowned K t.order c.args.self.now.lookahead before before c.args.w (answered Added c.from_residual.result) rule;
       cost = search rules;
       lookahead = search rules;
     }
@@ -25,12 +25,12 @@ returns-in-err-f g c =
 pub returns : goal.returns
 returns g c =
     let t = g.L.Worklist in
-    let found = c.in-ok-f.ensures in
+    let found = c.in_ok-f.ensures in
     let before = state c.args.header.now c.args.vertices.now c.args.half_edges.now (t.waiting c.args.self.now.worklist) in
     let after = state c.add.new.header c.add.new.vertices c.add.new.half_edges (t.waiting c.refill.new.worklist) in
     let rule =
     add_taken (g.C.Cost.parts c.args.self.now.cost) t.order c.args.self.now.lookahead before after
-    c.args.w c.in-ok-f.f found.0 found.1.owned c.add.ensures c.refill.ensures in
+    c.args.w c.in_ok-f.f found.0 found.1.owned c.add.ensures c.refill.ensures in
     record {
       rule = rule;
       sound = keeps_sound (g.C.Cost.parts c.args.self.now.cost) t.order c.args.self.now.lookahead before after

@@ -12,11 +12,11 @@ returns g c =
     let t = g.L.Worklist in
     let m = mesh c.args.header.now c.args.vertices.now c.args.half_edges.now in
     let before = state c.args.header.now c.args.vertices.now c.args.half_edges.now (t.waiting c.args.self.now.worklist) in
-    let after = state c.args.header.now c.args.vertices.now c.set-pin.new.half_edges (t.waiting c.refill.new.worklist) in
+    let after = state c.args.header.now c.args.vertices.now c.set_pin.new.half_edges (t.waiting c.refill.new.worklist) in
     let rule =
     unpin_taken (g.C.Cost.parts c.args.self.now.cost) t.order c.args.self.now.lookahead before after
-    c.args.s c.min-freed.result c.in-ok-check-unpin.ensures.0
-    (pin_written 0 m c.args.s c.set-pin.new.half_edges c.set-pin.ensures) c.refill.ensures
+    c.args.s c.min-freed.result c.in_ok-check_unpin.ensures.0
+    (pin_written 0 m c.args.s c.set_pin.new.half_edges c.set_pin.ensures) c.refill.ensures
     (omega (arith, c.min-freed.ensures, c.from.ensures)) in
     record {
       rule = rule;

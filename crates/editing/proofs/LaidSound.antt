@@ -13,7 +13,7 @@ use Rattle.mesh.specs.Meshes.{Mesh, mesh, next, half, vertex, origin_point, twin
 use Rattle.mesh.specs.Sound.{Sound, extent_fits, along_border}
 use Rattle.mesh.proofs.Decide.{extent_known, true_T, T_true}
 use Rattle.mesh.specs.Edits.{laid}
-use Rattle.edits.specs.AddLaws.{LayMakesSound}
+use Rattle.editing.specs.AddLaws.{LayMakesSound}
 
 -- ---- the two faces turn
 

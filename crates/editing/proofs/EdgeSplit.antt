@@ -10,11 +10,11 @@ use Rattle.mesh.specs.Sound.{Sound, strictly_inside}
 use Rattle.mesh.proofs.Orientations.{orientation_rotates}
 use Rattle.mesh.proofs.Rings.{next_thrice, next_used}
 use Rattle.mesh.specs.Edits.{half_edge, split_edge, with_vertex}
-use Rattle.edits.proofs.Writes.{Write, write, written, Distinct, length_written, read_at, read_else}
-use Rattle.edits.proofs.Sixes.{six_places, next_0, next_1, next_2, next_3, next_4, next_5, new_faces}
-use Rattle.edits.proofs.Turns.{previous_is, next_injective, next_same_face, same_turn, face_turns_from, ends_differ, used_small, twin_back, twin_opposite, twin_not_self, twin_not_next}
-use Rattle.edits.proofs.Moves.{Moves, two_moved, length_two, held_first, held_second, held_else}
-use Rattle.edits.proofs.Splits.{Fresh, fresh_twin, end_at, Split, point_kept, point_new, split_sound}
+use Rattle.editing.proofs.Writes.{Write, write, written, Distinct, length_written, read_at, read_else}
+use Rattle.editing.proofs.Sixes.{six_places, next_0, next_1, next_2, next_3, next_4, next_5, new_faces}
+use Rattle.editing.proofs.Turns.{previous_is, next_injective, next_same_face, same_turn, face_turns_from, ends_differ, used_small, twin_back, twin_opposite, twin_not_self, twin_not_next}
+use Rattle.editing.proofs.Moves.{Moves, two_moved, length_two, held_first, held_second, held_else}
+use Rattle.editing.proofs.Splits.{Fresh, fresh_twin, end_at, Split, point_kept, point_new, split_sound}
 
 module _ (m : Mesh) (σ : Sound m) (w : Vertex) (low : w.height ≤ 32767) (inner : strictly_inside m.header (place w) ≡ true)
     (few : m.header.count < 1024) (vertex_room : m.header.count < length m.vertices) (room : used m + 6 ≤ length m.half_edges)

@@ -5,8 +5,8 @@ use Rattle.mesh.specs.declared.HalfEdge.{HalfEdge}
 use Rattle.mesh.specs.Meshes.{Mesh, used, half_at, half, twin_of, no_twin}
 use Rattle.mesh.specs.Sound.{Sound}
 use Rattle.mesh.specs.Edits.{half_edge, moved}
-use Rattle.edits.proofs.Writes.{length_moved, moved_there, moved_else, moved_twin}
-use Rattle.edits.proofs.Turns.{used_small, twin_back, twin_not_self}
+use Rattle.editing.proofs.Writes.{length_moved, moved_there, moved_else, moved_twin}
+use Rattle.editing.proofs.Turns.{used_small, twin_back, twin_not_self}
 
 -- b and c, in use and not twins of one another, move to b' and c' among the six places after those in use
 pub record Moves (m : Mesh) (b c b' c' : ℕ) : Type 0 where

@@ -9,12 +9,12 @@ use Rattle.mesh.specs.Meshes.{Mesh, next, no_twin, no_half_edge, used, half_at, 
 use Rattle.mesh.specs.Sound.{Sound, EachTwin, along_border, on_border}
 use Rattle.mesh.proofs.Rings.{next_used}
 use Rattle.mesh.specs.Edits.{half_edge}
-use Rattle.edits.specs.Flips.{with_pin, with_half_edges, pinned}
-use Rattle.edits.specs.FlipLaws.{PinKeepsSound, UnpinRestores, PinLaws}
-use Rattle.edits.proofs.Quadrilaterals.{Edge, edge_of, not_none}
-use Rattle.edits.proofs.Standing.{same_half}
-use Rattle.edits.proofs.FlipSound.{interior_edge}
-use Rattle.edits.proofs.Tallies.{tally_same}
+use Rattle.editing.specs.Flips.{with_pin, with_half_edges, pinned}
+use Rattle.editing.specs.FlipLaws.{PinKeepsSound, UnpinRestores, PinLaws}
+use Rattle.editing.proofs.Quadrilaterals.{Edge, edge_of, not_none}
+use Rattle.editing.proofs.Standing.{same_half}
+use Rattle.editing.proofs.FlipSound.{interior_edge}
+use Rattle.editing.proofs.Tallies.{tally_same}
 
 -- h, with the pin p if it stands at s = j
 abbrev repinned : ℕ → ℕ → ℕ → HalfEdge → HalfEdge

@@ -5,13 +5,13 @@ use Rattle.mesh.specs.Meshes.{Mesh, next, previous, no_twin, used, half, twin_of
 use Rattle.mesh.specs.Sound.{Sound}
 use Rattle.mesh.proofs.Rings.{next_used, previous_used, next_previous}
 use Rattle.mesh.specs.Edits.{half_edge}
-use Rattle.edits.specs.FlipLaws.{Face, TwoFlips, FlipLaws}
-use Rattle.edits.specs.Flips.{flipped}
-use Rattle.edits.proofs.Relabelling.{relabel, Different, at_a, at_b, at_c, at_d, stays}
-use Rattle.edits.proofs.Quadrilaterals.{Edge, Outside, outside_next, Clear, clear, not_none, next_next}
-use Rattle.edits.proofs.Standing.{same_half}
-use Rattle.edits.proofs.FlipSound.{flipped_is, label_below, label_home, s_stays, t_stays, Flippable, flippable_known}
-use Rattle.edits.proofs.FlipLaws.{N, sound_again, again, Step, step, either_half, flip_keeps_sound, flippable_again, four_flips}
+use Rattle.editing.specs.FlipLaws.{Face, TwoFlips, FlipLaws}
+use Rattle.editing.specs.Flips.{flipped}
+use Rattle.editing.proofs.Relabelling.{relabel, Different, at_a, at_b, at_c, at_d, stays}
+use Rattle.editing.proofs.Quadrilaterals.{Edge, Outside, outside_next, Clear, clear, not_none, next_next}
+use Rattle.editing.proofs.Standing.{same_half}
+use Rattle.editing.proofs.FlipSound.{flipped_is, label_below, label_home, s_stays, t_stays, Flippable, flippable_known}
+use Rattle.editing.proofs.FlipLaws.{N, sound_again, again, Step, step, either_half, flip_keeps_sound, flippable_again, four_flips}
 
 -- which of the six half-edges of the faces of s and t x is, if any
 pub data Place (s t x : ℕ) : Type 0 where

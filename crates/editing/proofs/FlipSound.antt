@@ -10,12 +10,12 @@ use Rattle.mesh.specs.Sound.{Sound, on_border, along_border, EachTwin}
 use Rattle.mesh.proofs.Decide.{true_T, T_true}
 use Rattle.mesh.proofs.Orientations.{orientation_rotates}
 use Rattle.mesh.proofs.Rings.{next_previous, previous_next, next_first, next_second, next_used, previous_used}
-use Rattle.edits.specs.Flips.{is_interior, is_free, convex, is_flippable, turned, with_half_edges, flipped}
-use Rattle.edits.proofs.Relabelling.{relabel, Different, Which, is_a, is_b, is_c, is_d, is_off, which, stays, at_a, at_b, at_c, at_d, four_steps, injective, cycle_below}
-use Rattle.edits.proofs.Quadrilaterals.{Edge, Outside, Clear, clear, edge_of, edge_swapped, not_none, next_next, previous_previous, turns_at}
-use Rattle.edits.proofs.Turns.{Turns, turns_next}
-use Rattle.edits.proofs.Standing.{from, from_other, turned_at, turned_length}
-use Rattle.edits.proofs.Sides.{in_rectangle, inner_diagonal}
+use Rattle.editing.specs.Flips.{is_interior, is_free, convex, is_flippable, turned, with_half_edges, flipped}
+use Rattle.editing.proofs.Relabelling.{relabel, Different, Which, is_a, is_b, is_c, is_d, is_off, which, stays, at_a, at_b, at_c, at_d, four_steps, injective, cycle_below}
+use Rattle.editing.proofs.Quadrilaterals.{Edge, Outside, Clear, clear, edge_of, edge_swapped, not_none, next_next, previous_previous, turns_at}
+use Rattle.editing.proofs.Turns.{Turns, turns_next}
+use Rattle.editing.proofs.Standing.{from, from_other, turned_at, turned_length}
+use Rattle.editing.proofs.Sides.{in_rectangle, inner_diagonal}
 
 -- the edge of an interior half-edge
 pub interior_edge : (m : Mesh) → Sound m → (s : ℕ) → is_interior m s ≡ true → Edge m s (twin_of m s)

@@ -10,13 +10,13 @@ use Rattle.mesh.specs.Meshes.{Mesh, next, used, faces, half, vertex, origin_poin
 use Rattle.mesh.specs.Sound.{Sound, strictly_inside, stands_at, is_occupied}
 use Rattle.mesh.proofs.Rings.{next_first, next_second, next_third, next_thrice, next_used}
 use Rattle.mesh.specs.Edits.{on_line, crossed, split_at, with_vertex, added_in, added}
-use Rattle.edits.specs.AddLaws.{AddKeepsSound}
+use Rattle.editing.specs.AddLaws.{AddKeepsSound}
 use Rattle.mesh.proofs.Borders.{crossed_inner}
 use Rattle.mesh.proofs.Borders.{is_zero_known}
-use Rattle.edits.proofs.Corners.{SamePlace, off_line, left_of_next, left_of_previous, beyond_first, beyond_second}
-use Rattle.edits.proofs.Turns.{same_turn, turns}
-use Rattle.edits.proofs.FaceSplit.{split_face_sound}
-use Rattle.edits.proofs.EdgeSplit.{split_edge_sound}
+use Rattle.editing.proofs.Corners.{SamePlace, off_line, left_of_next, left_of_previous, beyond_first, beyond_second}
+use Rattle.editing.proofs.Turns.{same_turn, turns}
+use Rattle.editing.proofs.FaceSplit.{split_face_sound}
+use Rattle.editing.proofs.EdgeSplit.{split_edge_sound}
 
 -- ---- no vertex stands there
 

@@ -10,12 +10,12 @@ use Rattle.mesh.specs.Sound.{Sound}
 use Rattle.mesh.proofs.Decide.{T_true}
 use Rattle.mesh.proofs.Orientations.{orientation_rotates}
 use Rattle.mesh.specs.Edits.{half_edge}
-use Rattle.edits.specs.Flips.{is_interior, is_free, convex, is_flippable, turned, with_half_edges, flipped}
-use Rattle.edits.specs.FlipLaws.{EitherHalf, FlipKeepsSound, FlippableAgain, FourFlips}
-use Rattle.edits.proofs.Relabelling.{relabel, cycle_swapped}
-use Rattle.edits.proofs.Quadrilaterals.{Edge, clear, edge_swapped, edge_of, not_none, next_next, turns_at}
-use Rattle.edits.proofs.Standing.{from, after, from_other, same_half, turned_at, turned_past, turned_length}
-use Rattle.edits.proofs.FlipSound.{M, flipped_is, label_below, label_home, each, s_stays, t_stays, origin_at, twin_at, pin_at, from_s, from_t, new_s, new_t, new_a, new_b, new_c, new_d, sound_turned, interior_edge, Flippable, flippable_known}
+use Rattle.editing.specs.Flips.{is_interior, is_free, convex, is_flippable, turned, with_half_edges, flipped}
+use Rattle.editing.specs.FlipLaws.{EitherHalf, FlipKeepsSound, FlippableAgain, FourFlips}
+use Rattle.editing.proofs.Relabelling.{relabel, cycle_swapped}
+use Rattle.editing.proofs.Quadrilaterals.{Edge, clear, edge_swapped, edge_of, not_none, next_next, turns_at}
+use Rattle.editing.proofs.Standing.{from, after, from_other, same_half, turned_at, turned_past, turned_length}
+use Rattle.editing.proofs.FlipSound.{M, flipped_is, label_below, label_home, each, s_stays, t_stays, origin_at, twin_at, pin_at, from_s, from_t, new_s, new_t, new_a, new_b, new_c, new_d, sound_turned, interior_edge, Flippable, flippable_known}
 
 -- ---- what stands where
 

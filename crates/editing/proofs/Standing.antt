@@ -7,9 +7,9 @@ use Rattle.mesh.specs.Meshes.{Mesh, next, previous, no_twin, no_half_edge, used,
 use Rattle.mesh.specs.Sound.{Sound}
 use Rattle.mesh.proofs.Rings.{next_used, previous_used}
 use Rattle.mesh.specs.Edits.{half_edge, linked, moved}
-use Rattle.edits.specs.Flips.{with_origin, turned}
-use Rattle.edits.proofs.Relabelling.{cycle, relabel, Different, Off, Which, is_a, is_b, is_c, is_d, is_off, which, stays, at_a, at_b, at_c, at_d}
-use Rattle.edits.proofs.Quadrilaterals.{Edge, Outside, Clear, clear, edge_of, not_none}
+use Rattle.editing.specs.Flips.{with_origin, turned}
+use Rattle.editing.proofs.Relabelling.{cycle, relabel, Different, Off, Which, is_a, is_b, is_c, is_d, is_off, which, stays, at_a, at_b, at_c, at_d}
+use Rattle.editing.proofs.Quadrilaterals.{Edge, Outside, Clear, clear, edge_of, not_none}
 
 -- ---- one step
 

@@ -2,7 +2,7 @@
 ghost use Rattle.std.specs.Prelude.{◌≡◌, ℕ, ◌%◌, ◌<◌, ◌≤◌, length, ◌≢◌};
 ghost use Rattle.mesh.specs.Meshes.{seen, half_at, used as in_use, twin_of};
 ghost use Rattle.mesh.specs.Sound.{Roomy, Placed};
-ghost use Rattle.edits.specs.Flips.{is_interior as interior_edge, convex, turned, with_pin};
+ghost use Rattle.editing.specs.Flips.{is_interior as interior_edge, convex, turned, with_pin};
 
 use mesh::edits::put;
 use mesh::geometry::orientation;

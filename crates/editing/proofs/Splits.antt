@@ -13,8 +13,8 @@ use Rattle.mesh.specs.Sound.{Sound, Stands, on_border, along_border, strictly_in
 use Rattle.mesh.proofs.Decide.{inside_known, T_true}
 use Rattle.mesh.proofs.Rings.{next_used}
 use Rattle.mesh.specs.Edits.{half_edge, with_vertex}
-use Rattle.edits.proofs.Moves.{Moves, Held, after_moves, two_moved, to_first, to_second, to_else, held_first, held_second, held_else}
-use Rattle.edits.proofs.Tallies.{tally_moved}
+use Rattle.editing.proofs.Moves.{Moves, Held, after_moves, two_moved, to_first, to_second, to_else, held_first, held_second, held_else}
+use Rattle.editing.proofs.Tallies.{tally_moved}
 
 -- ---- what a split gives
 

@@ -9,8 +9,8 @@ use Rattle.mesh.specs.Meshes.{Mesh, next, previous, no_twin, used, half, vertex,
 use Rattle.mesh.specs.Sound.{Sound}
 use Rattle.mesh.proofs.Orientations.{coordinates, o}
 use Rattle.mesh.proofs.Rings.{next_previous, previous_next, next_thrice, next_used, previous_used}
-use Rattle.edits.proofs.Relabelling.{Different, Off}
-use Rattle.edits.proofs.Turns.{Turns, turns}
+use Rattle.editing.proofs.Relabelling.{Different, Off}
+use Rattle.editing.proofs.Turns.{Turns, turns}
 
 -- ---- round a face
 

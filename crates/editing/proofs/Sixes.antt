@@ -5,7 +5,7 @@ use Rattle.std.proofs.lemmas.Bool.Decides.{nat_tests}
 use Rattle.mesh.specs.declared.Point.{Point}
 use Rattle.mesh.specs.Geometry.{orientation}
 use Rattle.mesh.specs.Meshes.{Mesh, next, used, faces}
-use Rattle.edits.proofs.Turns.{same_turn}
+use Rattle.editing.proofs.Turns.{same_turn}
 
 -- the six places after those in use
 pub six_places :

@@ -1,6 +1,6 @@
 use Rattle.std.proofs.Common.{rules}
-use Rattle.edits.specs.Flips.{convex}
-use Rattle.edits.proofs.flips.is_convex.Goals as goal
+use Rattle.editing.specs.Flips.{convex}
+use Rattle.editing.proofs.flips.is_convex.Goals as goal
 
 pub returns-then-orientation-gt0 : goal.returns-then-orientation-gt0
 unfolding convex

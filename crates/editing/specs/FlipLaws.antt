@@ -2,7 +2,7 @@
 use Rattle.std.specs.Prelude.{◌≡◌, ℕ, ◌<◌, ◌≤◌, true}
 use Rattle.mesh.specs.Meshes.{Mesh, next, previous, used, half, twin_of}
 use Rattle.mesh.specs.Sound.{Sound}
-use Rattle.edits.specs.Flips.{is_interior, is_free, is_flippable, flipped, pinned}
+use Rattle.editing.specs.Flips.{is_interior, is_free, is_flippable, flipped, pinned}
 
 -- both half-edges of an edge give the same flip
 abbrev pub EitherHalf : Type 0
