@@ -19,10 +19,10 @@ pub fn drape<C: Cost, L: Worklist>(
     text: &[u8],
     buffer: &mut [u8],
 ) -> Result<usize, Refusal>
-    ensures drapes { Drapes (parts job.old.cost) order job.old.lookahead
-        (state header.old vertices.old half_edges.old (waiting job.old.worklist))
+    ensures drapes { Drapes (C.parts job.old.cost) L.order job.old.lookahead
+        (state header.old vertices.old half_edges.old (L.waiting job.old.worklist))
         text.now buffer.old result buffer.new
-        (state header.new vertices.new half_edges.new (waiting job.new.worklist)) }
+        (state header.new vertices.new half_edges.new (L.waiting job.new.worklist)) }
     ensures cost { job.new.cost ≡ job.old.cost }
     ensures lookahead { job.new.lookahead ≡ job.old.lookahead }
 {

@@ -102,10 +102,10 @@ fn add_lines<C: Cost, L: Worklist>(
     text: &[u8],
 ) -> Result<u32, Fault>
     requires { header.old.count ≡ 4 }
-    ensures loads { Loads (parts job.old.cost) order job.old.lookahead
-        (state header.old vertices.old half_edges.old (waiting job.old.worklist))
+    ensures loads { Loads (C.parts job.old.cost) L.order job.old.lookahead
+        (state header.old vertices.old half_edges.old (L.waiting job.old.worklist))
         1 (from_vertices columns 4 (pieces 10 text.now)) result
-        (state header.new vertices.new half_edges.new (waiting job.new.worklist)) }
+        (state header.new vertices.new half_edges.new (L.waiting job.new.worklist)) }
     ensures cost { job.new.cost ≡ job.old.cost }
     ensures lookahead { job.new.lookahead ≡ job.old.lookahead }
 {
@@ -130,10 +130,10 @@ pub fn load<C: Cost, L: Worklist>(
     half_edges: &mut [HalfEdge],
     text: &[u8],
 ) -> Result<u32, Fault>
-    ensures loads { Loads (parts job.old.cost) order job.old.lookahead
-        (state header.old vertices.old half_edges.old (waiting job.old.worklist))
+    ensures loads { Loads (C.parts job.old.cost) L.order job.old.lookahead
+        (state header.old vertices.old half_edges.old (L.waiting job.old.worklist))
         0 (script text.now) result
-        (state header.new vertices.new half_edges.new (waiting job.new.worklist)) }
+        (state header.new vertices.new half_edges.new (L.waiting job.new.worklist)) }
     ensures read_back { ReadsBack }
     ensures cost { job.new.cost ≡ job.old.cost }
     ensures lookahead { job.new.lookahead ≡ job.old.lookahead }

@@ -5,8 +5,8 @@ use Rattle.text.proofs.Numbers.{cond_ok, cond_err, field_empty, field_refused, f
 use Rattle.text.proofs.fields.value.Goals as goal
 use Rattle.text.proofs.fields.value.Goals.{then-rest-gt4-via-then-rest-gt4, then-rest-gt4-via-else-rest-gt4+then-rest-gt0}
 
-pub returns-in-default : goal.returns-in-default
-returns-in-default c = rw (field_empty c.args.field.now (omega (arith, ltb-true)))
+pub returns-in_default : goal.returns-in_default
+returns-in_default c = rw (field_empty c.args.field.now (omega (arith, ltb-true)))
 
 pub returns-then-rest-gt4 : goal.returns-then-rest-gt4
 returns-then-rest-gt4 c =
@@ -16,12 +16,12 @@ returns-then-rest-gt4 c =
       | then-rest-gt4-via-else-rest-gt4+then-rest-gt0 w ↦ rw (field_refused c.args.field.now some (inr w.if-rest-gt0.true))
     ]
 
-pub returns-in-err-digit : goal.returns-in-err-digit
-returns-in-err-digit c =
+pub returns-in_err-digit : goal.returns-in_err-digit
+returns-in_err-digit c =
     let xs = c.args.field.now in
     let some : 0 < length xs = omega (arith, ltb-false) in
-    let p = err_from_is_err_and c.from-residual.result c.from-residual.ensures.1 in
-    let d = cond_err _ _ _ c.in-err-digit.ensures in
+    let p = err_from_is_err_and c.from_residual.result c.from_residual.ensures.1 in
+    let d = cond_err _ _ _ c.in_err-digit.ensures in
     let e = field_read xs some c.if-rest-gt4.false c.if-rest-gt0.either in
     rw (p.1, p.2, e, d.0, d.1)
 
@@ -29,6 +29,6 @@ pub returns : goal.returns
 returns c =
     let xs = c.args.field.now in
     let some : 0 < length xs = omega (arith, ltb-false) in
-    let d = cond_ok _ _ _ c.in-ok-digit.ensures in
+    let d = cond_ok _ _ _ c.in_ok-digit.ensures in
     let e = field_read xs some c.if-rest-gt4.false c.if-rest-gt0.either in
-    rw (c.read-on.ensures, e, d.0, d.1, ok_or_cond)
+    rw (c.read_on.ensures, e, d.0, d.1, ok_or_cond)

@@ -3,8 +3,8 @@ use Rattle.job.specs.Rule.{state}
 use Rattle.text.proofs.Loads.{Midway}
 use Rattle.text.proofs.load.add_lines.Given as goal
 
-abbrev pub invariant_loop_rest : goal.invariant-loop-rest
-invariant_loop_rest g l =
+abbrev pub invariant-loop-rest : goal.invariant-loop-rest
+invariant-loop-rest g l =
     Midway (g.C.Cost.parts l.initial.job.cost) g.L.Worklist.order l.initial.job.lookahead
     (state l.initial.header l.initial.vertices l.initial.half_edges (g.L.Worklist.waiting l.initial.job.worklist))
     l.columns l.text
@@ -12,5 +12,5 @@ invariant_loop_rest g l =
     l.added l.rest
     × (l.job.cost ≡ l.initial.job.cost) × (l.job.lookahead ≡ l.initial.job.lookahead)
 
-abbrev pub decreases_loop_rest : goal.decreases-loop-rest
-decreases_loop_rest g l = length l.rest
+abbrev pub decreases-loop-rest : goal.decreases-loop-rest
+decreases-loop-rest g l = length l.rest

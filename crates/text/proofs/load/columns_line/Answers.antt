@@ -6,21 +6,21 @@ use Rattle.text.proofs.Exits.{exits}
 use Rattle.text.proofs.Scripts.{columns_unended, columns_line}
 use Rattle.text.proofs.load.columns_line.Goals as goal
 
-pub returns-in-err-names : goal.returns-in-err-names
-returns-in-err-names c =
-    let none = c.in-err-names.ensures in
-    exits _ _ _ c.in-err-names.field-0.0 c.from-residual.ensures.1 (columns_unended c.args.text.now none.1 ∙ ap halts (sym none.0))
+pub returns-in_err-names : goal.returns-in_err-names
+returns-in_err-names c =
+    let none = c.in_err-names.ensures in
+    exits _ _ _ c.in_err-names.field-0.0 c.from_residual.ensures.1 (columns_unended c.args.text.now none.1 ∙ ap halts (sym none.0))
 
 pub returns-in-Some : goal.returns-in-Some
 returns-in-Some c =
-    let cut = c.in-ok-names.ensures in
-    let rest = c.in-ok-names.rest.now in
-    columns_line c.args.text.now c.in-ok-names.names.now rest cut.0 cut.1
+    let cut = c.in_ok-names.ensures in
+    let rest = c.in_ok-names.rest.now in
+    columns_line c.args.text.now c.in_ok-names.names.now rest cut.0 cut.1
     ∙ ap (λ o. by_columns o (pieces 10 rest)) (sym c.in-Some.ensures)
 
 pub returns-in-None : goal.returns-in-None
 returns-in-None c =
-    let cut = c.in-ok-names.ensures in
-    let rest = c.in-ok-names.rest.now in
-    columns_line c.args.text.now c.in-ok-names.names.now rest cut.0 cut.1
+    let cut = c.in_ok-names.ensures in
+    let rest = c.in_ok-names.rest.now in
+    columns_line c.args.text.now c.in_ok-names.names.now rest cut.0 cut.1
     ∙ ap (λ o. by_columns o (pieces 10 rest)) (sym c.in-None.ensures)

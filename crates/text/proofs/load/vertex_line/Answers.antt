@@ -8,43 +8,43 @@ use Rattle.text.proofs.Exits.{exits, asked_err, asked_ok}
 use Rattle.text.proofs.Scripts.{vertices_unended, vertices_line}
 use Rattle.text.proofs.load.vertex_line.Goals as goal
 
-pub returns-in-err-one : goal.returns-in-err-one
-returns-in-err-one c =
-    let none = c.in-err-one.ensures in
+pub returns-in_err-one : goal.returns-in_err-one
+returns-in_err-one c =
+    let none = c.in_err-one.ensures in
     record {
       asked =
-          exits _ _ _ c.in-err-one.field-0.0 c.from-residual.ensures.1
+          exits _ _ _ c.in_err-one.field-0.0 c.from_residual.ensures.1
           (vertices_unended c.args.columns c.args.line c.args.text.now c.requires none.1 ∙ ap halts (sym none.0));
-      shorter = exits _ _ _ c.in-err-one.field-0.0 c.from-residual.ensures.1 tt;
+      shorter = exits _ _ _ c.in_err-one.field-0.0 c.from_residual.ensures.1 tt;
     }
 
-pub returns-in-err-vertex : goal.returns-in-err-vertex
-returns-in-err-vertex c =
-    let cut = c.in-ok-one.ensures in
-    let one = c.in-ok-one.one.now in
-    let rest = c.in-ok-one.rest.now in
+pub returns-in_err-vertex : goal.returns-in_err-vertex
+returns-in_err-vertex c =
+    let cut = c.in_ok-one.ensures in
+    let one = c.in_ok-one.one.now in
+    let rest = c.in_ok-one.rest.now in
     let columns = c.args.columns in
     let line = c.args.line in
     record {
       asked =
-          exits _ _ _ c.in-err-vertex.field-0.0 c.from-residual-in-err-vertex.ensures.1
+          exits _ _ _ c.in_err-vertex.field-0.0 c.from_residual-in_err-vertex.ensures.1
           (vertices_line columns line c.args.text.now one rest cut.0 cut.1
           ∙ asked_err Add line (from_vertices columns (suc line) (pieces 10 rest)) (vertex columns one) _
-          (c.in-err-vertex.ensures ∙ ap (λ r. in_line r line) c.read-vertex.ensures));
-      shorter = exits _ _ _ c.in-err-vertex.field-0.0 c.from-residual-in-err-vertex.ensures.1 tt;
+          (c.in_err-vertex.ensures ∙ ap (λ r. in_line r line) c.read_vertex.ensures));
+      shorter = exits _ _ _ c.in_err-vertex.field-0.0 c.from_residual-in_err-vertex.ensures.1 tt;
     }
 
 pub returns : goal.returns
 returns c =
-    let cut = c.in-ok-one.ensures in
-    let one = c.in-ok-one.one.now in
-    let rest = c.in-ok-one.rest.now in
+    let cut = c.in_ok-one.ensures in
+    let one = c.in_ok-one.one.now in
+    let rest = c.in_ok-one.rest.now in
     let columns = c.args.columns in
     let line = c.args.line in
     record {
       asked =
           vertices_line columns line c.args.text.now one rest cut.0 cut.1
           ∙ asked_ok Add line (from_vertices columns (suc line) (pieces 10 rest)) (vertex columns one) _
-          (c.in-ok-vertex.ensures ∙ ap (λ r. in_line r line) c.read-vertex.ensures);
+          (c.in_ok-vertex.ensures ∙ ap (λ r. in_line r line) c.read_vertex.ensures);
       shorter = omega (arith, ap length cut.1, length-append one (10 ∷ rest));
     }

@@ -5,5 +5,5 @@ use Rattle.text.proofs.printing.put_bytes.Goals as goal
 pub returns : goal.returns
 returns c = record {
   end = refl;
-  buffer = over_part c.args.buffer.now c.args.at _ c.copy-from-slice.new.self c.args.bytes.now c.copy-from-slice.ensures.after (omega arith);
+  buffer = over_part c.args.buffer.now c.args.at _ c.copy_from_slice.new.self c.args.bytes.now c.copy_from_slice.ensures.after (omega arith);
 }

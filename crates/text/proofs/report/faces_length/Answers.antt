@@ -11,8 +11,8 @@ loop-f-preserved c =
     let f = c.loop-f.f in
     let line = face_line_is m f c.origins-a.result.0 c.origins-a.result.1 c.origins-a.result.2 c.origins-a.ensures.first c.origins-a.ensures.second c.origins-a.ensures.third in
     let more = ap length (face_lines_more m f) ∙ length-append (face_lines m f) (face_line m f) in
-    let long = c.line-length-length.ensures.exact ∙ ap length line in
-    (omega arith, omega (arith, c.line-length-length.ensures.short))
+    let long = c.line_length-length.ensures.exact ∙ ap length line in
+    (omega arith, omega (arith, c.line_length-length.ensures.short))
 
 pub returns : goal.returns
 returns c =

@@ -3,5 +3,5 @@ use Rattle.mesh.specs.Meshes.{seen}
 use Rattle.text.specs.Printing.{face_lines}
 use Rattle.text.proofs.report.faces_length.Given as goal
 
-abbrev pub invariant_loop_f : goal.invariant-loop-f
-invariant_loop_f l = (l.length ≡ 6 + length (face_lines (seen l.mesh) l.f)) × (l.length ≤ 6 + 33 * l.f)
+abbrev pub invariant-loop-f : goal.invariant-loop-f
+invariant-loop-f l = (l.length ≡ 6 + length (face_lines (seen l.mesh) l.f)) × (l.length ≤ 6 + 33 * l.f)

@@ -4,10 +4,10 @@ use Rattle.text.proofs.Overs.{Put, put_more}
 use Rattle.text.proofs.Prints.{printed_short, after_short, answer_put, buffer_put, fault_names, fault_parts, length_fault}
 use Rattle.text.proofs.report.fault_line.Goals as goal
 
-pub returns-then-buffer-line-length : goal.returns-then-buffer-line-length
-returns-then-buffer-line-length c =
+pub returns-then-buffer-line_length : goal.returns-then-buffer-line_length
+returns-then-buffer-line_length c =
     let e = length_fault c.args.fault c.number-number.result c.number-number.ensures in
-    let h : length c.args.buffer.now < length (fault_text c.args.fault) = omega (arith, c.line-length.ensures.exact) in
+    let h : length c.args.buffer.now < length (fault_text c.args.fault) = omega (arith, c.line_length.ensures.exact) in
     record {
       answer = sym (printed_short (fault_text c.args.fault) c.args.buffer.now h);
       buffer = sym (after_short (fault_text c.args.fault) c.args.buffer.now h);
@@ -17,9 +17,9 @@ pub returns : goal.returns
 returns c =
     let e = fault_parts c.args.fault c.number-number.result c.number-number.ensures in
     let n = length_fault c.args.fault c.number-number.result c.number-number.ensures in
-    let h : length (fault_text c.args.fault) ≤ length c.args.buffer.now = omega (arith, c.line-length.ensures.exact) in
-    let p₁ : Put c.args.buffer.now 0 fault_names c.put-bytes-at.new.buffer c.put-bytes-at.result =
-    record { buffer = c.put-bytes-at.ensures.buffer; end = c.put-bytes-at.ensures.end }
+    let h : length (fault_text c.args.fault) ≤ length c.args.buffer.now = omega (arith, c.line_length.ensures.exact) in
+    let p₁ : Put c.args.buffer.now 0 fault_names c.put_bytes-at.new.buffer c.put_bytes-at.result =
+    record { buffer = c.put_bytes-at.ensures.buffer; end = c.put_bytes-at.ensures.end }
     in
-    let p₂ = put_more (number_line c.args.fault.line c.args.fault.field c.number-number.result) (omega arith) p₁ c.put-line.ensures.buffer c.put-line.ensures.end in
+    let p₂ = put_more (number_line c.args.fault.line c.args.fault.field c.number-number.result) (omega arith) p₁ c.put_line.ensures.buffer c.put_line.ensures.end in
     record { answer = answer_put (fault_text c.args.fault) e h p₂; buffer = buffer_put (fault_text c.args.fault) e h p₂ }
