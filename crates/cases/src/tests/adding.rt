@@ -9,7 +9,7 @@ fn half(origin: u16, twin: u16, pin: u8) -> HalfEdge {
 
 #[test]
 fn add_refuses_no_mesh(rt: HostRuntime) -> Result<(), Fail> {
-    Site::blank(rt.alloc(), 8, 30)?.refuses_vertex(vertex(2, 1, 0), 4)?;
+    Site::blank(rt.alloc(), 8, 30)?.refuses_vertex(&rt, vertex(2, 1, 0), 4)?;
     for (s, half_edge) in [
         (2, half(2, 65535, 0)),
         (2, half(2, 4, 0)),
@@ -20,9 +20,9 @@ fn add_refuses_no_mesh(rt: HostRuntime) -> Result<(), Fail> {
         (4, half(1, 65535, 0)),
     ] {
         let mut site = Site::laid(rt.alloc(), 8, 30)?;
-        site.set_half_edge(s, half_edge)?;
-        site.refuses_vertex(vertex(2, 1, 0), 4)?;
-        site.refuses_vertex(vertex(0, 0, 32768), 4)?;
+        site.set_half_edge(&rt, s, half_edge)?;
+        site.refuses_vertex(&rt, vertex(2, 1, 0), 4)?;
+        site.refuses_vertex(&rt, vertex(0, 0, 32768), 4)?;
     }
     Ok(())
 }
@@ -44,7 +44,7 @@ fn add_refuses_a_wrong_header(rt: HostRuntime) -> Result<(), Fail> {
             depth,
             count,
         };
-        site.refuses_vertex(vertex(2, 1, 0), 4)?;
+        site.refuses_vertex(&rt, vertex(2, 1, 0), 4)?;
     }
     Ok(())
 }
@@ -53,10 +53,10 @@ fn add_refuses_a_wrong_header(rt: HostRuntime) -> Result<(), Fail> {
 fn add_refuses_cut_lists(rt: HostRuntime) -> Result<(), Fail> {
     for (vertices, half_edges) in [(4, 12), (5, 11)] {
         let mut site = Site::laid(rt.alloc(), 5, 12)?;
-        site.takes(vertex(2, 1, 0), 4)?;
+        site.takes(&rt, vertex(2, 1, 0), 4)?;
         site.vertices.truncate(vertices);
         site.half_edges.truncate(half_edges);
-        site.refuses_vertex(vertex(2, 2, 0), 4)?;
+        site.refuses_vertex(&rt, vertex(2, 2, 0), 4)?;
     }
     Ok(())
 }
@@ -64,15 +64,15 @@ fn add_refuses_cut_lists(rt: HostRuntime) -> Result<(), Fail> {
 #[test]
 fn add_refuses_a_pin_of_two(rt: HostRuntime) -> Result<(), Fail> {
     let mut site = Site::laid(rt.alloc(), 8, 30)?;
-    site.set_half_edge(2, half(2, 3, 2))?;
-    site.set_half_edge(3, half(0, 2, 2))?;
-    site.refuses_vertex(vertex(2, 1, 0), 4)
+    site.set_half_edge(&rt, 2, half(2, 3, 2))?;
+    site.set_half_edge(&rt, 3, half(0, 2, 2))?;
+    site.refuses_vertex(&rt, vertex(2, 1, 0), 4)
 }
 
 #[test]
 fn add_refuses_places(rt: HostRuntime) -> Result<(), Fail> {
     let mut site = Site::laid(rt.alloc(), 8, 30)?;
-    site.takes(vertex(2, 1, 7), 4)?;
+    site.takes(&rt, vertex(2, 1, 7), 4)?;
     for (east, north, height, number) in [
         (2, 2, 32768, 2),
         (4, 2, 32768, 2),
@@ -89,22 +89,22 @@ fn add_refuses_places(rt: HostRuntime) -> Result<(), Fail> {
         (2, 1, 0, 6),
         (2, 1, 7, 6),
     ] {
-        site.refuses_vertex(vertex(east, north, height), number)?;
+        site.refuses_vertex(&rt, vertex(east, north, height), number)?;
     }
-    site.takes(vertex(2, 2, 32767), 5)
+    site.takes(&rt, vertex(2, 2, 32767), 5)
 }
 
 #[test]
 fn add_refuses_full_lists(rt: HostRuntime) -> Result<(), Fail> {
     for (vertices, half_edges) in [(5, 11), (4, 12), (4, 6)] {
-        Site::laid(rt.alloc(), vertices, half_edges)?.refuses_vertex(vertex(2, 1, 0), 7)?;
+        Site::laid(rt.alloc(), vertices, half_edges)?.refuses_vertex(&rt, vertex(2, 1, 0), 7)?;
     }
     let mut site = Site::laid(rt.alloc(), 5, 12)?;
-    site.takes(vertex(2, 1, 0), 4)?;
-    site.refuses_vertex(vertex(1, 1, 0), 7)?;
-    site.refuses_vertex(vertex(2, 1, 0), 6)?;
-    site.refuses_vertex(vertex(0, 1, 0), 5)?;
-    site.refuses_vertex(vertex(1, 1, 32768), 2)
+    site.takes(&rt, vertex(2, 1, 0), 4)?;
+    site.refuses_vertex(&rt, vertex(1, 1, 0), 7)?;
+    site.refuses_vertex(&rt, vertex(2, 1, 0), 6)?;
+    site.refuses_vertex(&rt, vertex(0, 1, 0), 5)?;
+    site.refuses_vertex(&rt, vertex(1, 1, 32768), 2)
 }
 
 #[test]
@@ -113,7 +113,7 @@ fn every_inner_point_is_taken(rt: HostRuntime) -> Result<(), Fail> {
     for east in 1..6 {
         for north in 1..5 {
             site.lay(flat(6, 5))?;
-            site.takes(vertex(east, north, 0), 4)?;
+            site.takes(&rt, vertex(east, north, 0), 4)?;
         }
     }
     Ok(())
@@ -125,7 +125,7 @@ fn all_inner_points_are_taken(rt: HostRuntime) -> Result<(), Fail> {
     site.lay(flat(6, 5))?;
     for east in 1..6 {
         for north in 1..5 {
-            site.takes(vertex(east, north, 0), 4 * east + north - 1)?;
+            site.takes(&rt, vertex(east, north, 0), 4 * east + north - 1)?;
         }
     }
     Ok(())
@@ -134,12 +134,12 @@ fn all_inner_points_are_taken(rt: HostRuntime) -> Result<(), Fail> {
 #[test]
 fn a_pinned_edge_stays_pinned(rt: HostRuntime) -> Result<(), Fail> {
     let mut site = Site::laid(rt.alloc(), 5, 12)?;
-    site.set_half_edge(2, half(2, 3, 1))?;
-    site.set_half_edge(3, half(0, 2, 1))?;
-    site.takes(vertex(2, 2, 0), 4)?;
+    site.set_half_edge(&rt, 2, half(2, 3, 1))?;
+    site.set_half_edge(&rt, 3, half(0, 2, 1))?;
+    site.takes(&rt, vertex(2, 2, 0), 4)?;
     for (s, half_edge) in site.half_edges.iter().enumerate() {
         assert_eq!(rt; half_edge.pin == 1, matches!(s, 2 | 3 | 6 | 9));
     }
-    assert!(rt; site.waiting()? == [0, 2, 3, 4]);
+    assert_eq!(rt; site.waiting()?.as_slice(), [0, 2, 3, 4].as_slice());
     Ok(())
 }

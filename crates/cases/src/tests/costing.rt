@@ -102,6 +102,7 @@ fn the_question_refuses_no_mesh(rt: HostRuntime) -> Result<(), Fail> {
     let heap = rt.alloc();
     let mut site = folded(heap, 4, 2)?;
     site.set_half_edge(
+        &rt,
         2,
         HalfEdge {
             origin: 2,

@@ -129,7 +129,7 @@ fn faults_after_the_lay(rt: HostRuntime) -> Result<(), Fail> {
 fn faults_after_an_add(rt: HostRuntime) -> Result<(), Fail> {
     let heap = rt.alloc();
     let mut site = Site::laid(heap, 8, 30)?;
-    site.takes(vertex(2, 1, 7), 4)?;
+    site.takes(&rt, vertex(2, 1, 7), 4)?;
     let kept = site.state()?;
     all_leave(
         &rt,

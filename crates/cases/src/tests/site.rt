@@ -3,6 +3,7 @@ use cost::Fold;
 use job::job::Job;
 use mesh::{HalfEdge, Header, MeshRef, Plan, Refusal, Vertex};
 use std::alloc::{AllocError, Global};
+use std::process::Abort;
 use std::test::*;
 use text::{Fault, load};
 use worklist::{Fifo, Worklist};
@@ -164,14 +165,24 @@ impl Site {
         }
     }
 
-    pub(super) fn set_half_edge(&mut self, s: usize, half_edge: HalfEdge) -> Result<(), Fail> {
-        assert!(s < self.half_edges.len());
+    pub(super) fn set_half_edge(
+        &mut self,
+        rt: &impl Abort,
+        s: usize,
+        half_edge: HalfEdge,
+    ) -> Result<(), Fail> {
+        assert!(rt; s < self.half_edges.len());
         self.half_edges[s] = half_edge;
         Ok(())
     }
 
-    pub(super) fn set_vertex(&mut self, v: usize, vertex: Vertex) -> Result<(), Fail> {
-        assert!(v < self.vertices.len());
+    pub(super) fn set_vertex(
+        &mut self,
+        rt: &impl Abort,
+        v: usize,
+        vertex: Vertex,
+    ) -> Result<(), Fail> {
+        assert!(rt; v < self.vertices.len());
         self.vertices[v] = vertex;
         Ok(())
     }
@@ -182,19 +193,24 @@ impl Site {
     }
 
     // Checks that the vertex gets this number.
-    pub(super) fn takes(&mut self, w: Vertex, number: u32) -> Result<(), Fail> {
-        assert_eq!(self.add(w), Ok(number));
-        assert!(self.mesh().is_sound());
+    pub(super) fn takes(&mut self, rt: &impl Abort, w: Vertex, number: u32) -> Result<(), Fail> {
+        assert_eq!(rt; self.add(w), Ok(number));
+        assert!(rt; self.mesh().is_sound());
         Ok(())
     }
 
     // Checks that the lists are blank past this many vertices and half-edges.
-    pub(super) fn is_blank_past(&self, vertices: usize, half_edges: usize) -> Result<(), Fail> {
+    pub(super) fn is_blank_past(
+        &self,
+        rt: &impl Abort,
+        vertices: usize,
+        half_edges: usize,
+    ) -> Result<(), Fail> {
         for v in self.vertices.iter().skip(vertices) {
-            assert_eq!(*v, BLANK_VERTEX);
+            assert_eq!(rt; *v, BLANK_VERTEX);
         }
         for s in self.half_edges.iter().skip(half_edges) {
-            assert_eq!(*s, BLANK_HALF_EDGE);
+            assert_eq!(rt; *s, BLANK_HALF_EDGE);
         }
         Ok(())
     }
@@ -221,28 +237,43 @@ impl Site {
     }
 
     // Checks that lay is refused with this number and changes nothing.
-    pub(super) fn refuses_plan(&mut self, plan: Plan, number: u32) -> Result<(), Fail> {
+    pub(super) fn refuses_plan(
+        &mut self,
+        rt: &impl Abort,
+        plan: Plan,
+        number: u32,
+    ) -> Result<(), Fail> {
         let before = self.state()?;
-        assert_eq!(refused(self.lay(plan)), number);
-        assert_eq!(self.state()?, before);
+        assert_eq!(rt; refused(self.lay(plan)), number);
+        assert_eq!(rt; self.state()?, before);
         Ok(())
     }
 
     // Checks that flip, pin and unpin are refused with this number and change nothing.
-    pub(super) fn refuses_edits(&mut self, s: u32, number: u32) -> Result<(), Fail> {
+    pub(super) fn refuses_edits(
+        &mut self,
+        rt: &impl Abort,
+        s: u32,
+        number: u32,
+    ) -> Result<(), Fail> {
         let before = self.state()?;
-        assert_eq!(refused(self.flip(s)), number);
-        assert_eq!(refused(self.pin(s)), number);
-        assert_eq!(refused(self.unpin(s)), number);
-        assert_eq!(self.state()?, before);
+        assert_eq!(rt; refused(self.flip(s)), number);
+        assert_eq!(rt; refused(self.pin(s)), number);
+        assert_eq!(rt; refused(self.unpin(s)), number);
+        assert_eq!(rt; self.state()?, before);
         Ok(())
     }
 
     // Checks that add is refused with this number and changes nothing.
-    pub(super) fn refuses_vertex(&mut self, w: Vertex, number: u32) -> Result<(), Fail> {
+    pub(super) fn refuses_vertex(
+        &mut self,
+        rt: &impl Abort,
+        w: Vertex,
+        number: u32,
+    ) -> Result<(), Fail> {
         let before = self.state()?;
-        assert_eq!(refused(self.add(w)), number);
-        assert_eq!(self.state()?, before);
+        assert_eq!(rt; refused(self.add(w)), number);
+        assert_eq!(rt; self.state()?, before);
         Ok(())
     }
 }

@@ -22,13 +22,13 @@ fn a_header_out_of_range(rt: HostRuntime) -> Result<(), Fail> {
         (4, 4, 9),
         (4, 4, 7),
     ] {
-        let mut site = dotted(heap, 8, 20)?;
+        let mut site = dotted(&rt, heap, 8, 20)?;
         site.header = Header {
             width,
             depth,
             count,
         };
-        site.refuses_edits(2, 4)?;
+        site.refuses_edits(&rt, 2, 4)?;
     }
     Ok(())
 }
@@ -48,9 +48,9 @@ fn a_vertex_out_of_place(rt: HostRuntime) -> Result<(), Fail> {
         (4, 1, 4, 3),
         (4, 1, 2, 32768),
     ] {
-        let mut site = dotted(heap, 8, 20)?;
-        site.set_vertex(v, vertex(east, north, height))?;
-        site.refuses_edits(2, 4)?;
+        let mut site = dotted(&rt, heap, 8, 20)?;
+        site.set_vertex(&rt, v, vertex(east, north, height))?;
+        site.refuses_edits(&rt, 2, 4)?;
     }
     Ok(())
 }
@@ -71,9 +71,9 @@ fn a_half_edge_that_does_not_fit(rt: HostRuntime) -> Result<(), Fail> {
         (0, 0, 1, 0),
         (0, 0, 65535, 1),
     ] {
-        let mut site = dotted(heap, 8, 20)?;
-        site.set_half_edge(s, half_edge(origin, twin, pin))?;
-        site.refuses_edits(2, 4)?;
+        let mut site = dotted(&rt, heap, 8, 20)?;
+        site.set_half_edge(&rt, s, half_edge(origin, twin, pin))?;
+        site.refuses_edits(&rt, 2, 4)?;
     }
     Ok(())
 }
@@ -83,9 +83,9 @@ fn a_face_that_does_not_turn(rt: HostRuntime) -> Result<(), Fail> {
     let heap = rt.alloc();
     // The inner vertex on the diagonal makes the face 0, 2, 4 flat; beyond it, the face turns clockwise.
     for (east, north) in [(2, 2), (3, 1)] {
-        let mut site = dotted(heap, 8, 20)?;
-        site.set_vertex(4, vertex(east, north, 3))?;
-        site.refuses_edits(2, 4)?;
+        let mut site = dotted(&rt, heap, 8, 20)?;
+        site.set_vertex(&rt, 4, vertex(east, north, 3))?;
+        site.refuses_edits(&rt, 2, 4)?;
     }
     Ok(())
 }
@@ -93,7 +93,7 @@ fn a_face_that_does_not_turn(rt: HostRuntime) -> Result<(), Fail> {
 #[test]
 fn more_than_four_borders(rt: HostRuntime) -> Result<(), Fail> {
     // The two faces of the rectangle twice over: all but the number of borders is in order.
-    let mut site = dotted(rt.alloc(), 8, 20)?;
+    let mut site = dotted(&rt, rt.alloc(), 8, 20)?;
     let mut s = 0;
     for (origin, twin) in [
         (0, 65535),
@@ -110,9 +110,9 @@ fn more_than_four_borders(rt: HostRuntime) -> Result<(), Fail> {
         (3, 65535),
     ] {
         if s < 12 {
-            site.set_half_edge(s, half_edge(origin, twin, 0))?;
+            site.set_half_edge(&rt, s, half_edge(origin, twin, 0))?;
             s += 1;
         }
     }
-    site.refuses_edits(2, 4)
+    site.refuses_edits(&rt, 2, 4)
 }

@@ -27,5 +27,5 @@ invariant_of-self c =
       low = ap (below 6126) e ∙ below_push 6126 l.queue.items k l.low (lt-ltb k 6126 c.if-k-ge6126.false);
       wide = length-set l.listed k _ ∙ l.wide;
       told = λ j h. told_push l.listed l.queue.items k 6126 c.if-k-ge6126.false l.wide l.told j h
-              ∙ sym (ap (λ xs. among xs j) e);
+          ∙ sym (ap (λ xs. among xs j) e);
     }
