@@ -1,7 +1,7 @@
 -- How large the value of an expression can be, where no variable's is above m
 --     bounded m ρ within a : nat_abs (ev ρ a) ≤ size m a, where `size` computes
-use Rattle.std.proofs.Common.{◌≡◌, ℕ, zero, suc, ◌+◌, ◌*◌, ◌<◌, ◌≤◌, List, [], ◌∷◌, ℤ, pos, negsuc, ◌+ℤ◌, ◌-ℤ◌, ◌*ℤ◌, neg_ℤ, nat_abs, sym, refl, ap, ◌∙◌, le_refl, mul-le-mul, arith}
-use borrow.Author.Differences.{up, down, ints}
+use Rattle.std.proofs.Common.{◌≡◌, ℕ, zero, suc, ◌+◌, ◌*◌, ◌≤◌, List, [], ◌∷◌, ℤ, pos, negsuc, ◌+ℤ◌, ◌-ℤ◌, ◌*ℤ◌, neg_ℤ, nat_abs, refl, le_refl, mul-le-mul, arith}
+use borrow.Author.Differences.{ints}
 use Rattle.arith.proofs.Ring.{Ex, var, con, ◌⊕◌, ◌⊖◌, ◌⊗◌, ev, at}
 
 abbrev pub size : ℕ → Ex → ℕ

@@ -1,11 +1,11 @@
--- Fold is a lawful cost, and how large its numbers grow.
-use Rattle.std.specs.Prelude.{◌≡◌, ℕ, ◌+◌, ◌*◌, ◌^◌, ◌≤◌, List, [], ◌∷◌, ℤ, pos, unsigned_abs, refl}
-use Rattle.std.proofs.Common.{ap, arith, le_trans, lit≤}
+-- The costs are lawful, and how large fold's numbers grow.
+use Rattle.std.specs.Prelude.{◌≡◌, ℕ, ◌+◌, ◌-◌, ◌*◌, ◌^◌, ◌≤◌, min, List, [], ◌∷◌, ℤ, pos, unsigned_abs, refl}
+use Rattle.std.proofs.Common.{ap, ap₂, arith, le_trans, lit≤, mul-le-mul}
 use Rattle.std.proofs.lemmas.Int.{ints}
 use Rattle.arith.proofs.Ring.{Ex, var, ◌⊕◌, ◌⊖◌, ◌⊗◌, ring}
 use Rattle.arith.proofs.Bound.{bounded}
 use Rattle.mesh.specs.declared.checked.CheckedVertex.{CheckedVertex}
-use Rattle.cost.specs.Costs.{LawfulCost, fold, area, volume, distance}
+use Rattle.cost.specs.Costs.{Parts, LawfulCost, fold, length, square_gap, joint, scaled, capped, area, volume, distance}
 
 -- the area and the volume as expressions, over the offsets of the other corners from the first
 abbrev area_of : Ex → Ex → Ex → Ex → Ex
@@ -61,4 +61,49 @@ pub fold_lawful : LawfulCost fold
 fold_lawful = record {
   lawful_face = record { face_bounded = λ a b c. omega arith; face_rotates = λ a b c. refl };
   lawful_edge = record { edge_bounded = volume_bounded; edge_reverses = λ a b l r. ap unsigned_abs (volume_reverses a b l r) };
+}
+
+-- ---- length, and the costs made of costs
+
+square_gap_bounded : (x y : ℕ) → x ≤ 32767 → y ≤ 32767 → square_gap x y ≤ 2 ^ 47
+square_gap_bounded x y h k = let low : (x - y) + (y - x) ≤ 32767 = omega arith in let s = mul-le-mul low low in omega arith
+
+square_gap_swaps : (x y : ℕ) → square_gap x y ≡ square_gap y x
+square_gap_swaps x y = let e : (x - y) + (y - x) ≡ (y - x) + (x - y) = omega arith in ap₂ ◌*◌ e e
+
+pub length_lawful : LawfulCost length
+length_lawful = record {
+  lawful_face = record { face_bounded = λ a b c. omega arith; face_rotates = λ a b c. refl };
+  lawful_edge = record {
+    edge_bounded = λ a b l r.
+        omega (arith, square_gap_bounded a.east b.east a.easting b.easting, square_gap_bounded a.north b.north a.northing b.northing);
+    edge_reverses = λ a b l r. ap₂ ◌+◌ (square_gap_swaps b.east a.east) (square_gap_swaps b.north a.north);
+  };
+}
+
+capped_bounded : (x : ℕ) → capped x ≤ 2 ^ 48
+capped_bounded x = omega arith
+
+pub joint_lawful : {K L : Parts} → LawfulCost K → LawfulCost L → LawfulCost (joint K L)
+joint_lawful {K} {L} k l = record {
+  lawful_face = record {
+    face_bounded = λ a b c. capped_bounded (K.face a b c + L.face a b c);
+    face_rotates = λ a b c. ap₂ (λ x y. capped (x + y)) (k.lawful_face.face_rotates a b c) (l.lawful_face.face_rotates a b c);
+  };
+  lawful_edge = record {
+    edge_bounded = λ a b u v. capped_bounded (K.edge a b u v + L.edge a b u v);
+    edge_reverses = λ a b u v. ap₂ (λ x y. capped (x + y)) (k.lawful_edge.edge_reverses a b u v) (l.lawful_edge.edge_reverses a b u v);
+  };
+}
+
+pub scaled_lawful : (w : ℕ) {K : Parts} → LawfulCost K → LawfulCost (scaled w K)
+scaled_lawful w {K} k = record {
+  lawful_face = record {
+    face_bounded = λ a b c. capped_bounded (min w 16 * K.face a b c);
+    face_rotates = λ a b c. ap (λ x. capped (min w 16 * x)) (k.lawful_face.face_rotates a b c);
+  };
+  lawful_edge = record {
+    edge_bounded = λ a b u v. capped_bounded (min w 16 * K.edge a b u v);
+    edge_reverses = λ a b u v. ap (λ x. capped (min w 16 * x)) (k.lawful_edge.edge_reverses a b u v);
+  };
 }

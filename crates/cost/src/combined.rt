@@ -1,6 +1,6 @@
 // Costs made of other costs.
 ghost use Rattle.cost.specs.Costs.{joint, scaled};
-ghost use Rattle.std.proofs.Common.{rules};
+ghost use Rattle.cost.specs.Lawful.{joint_lawful, scaled_lawful};
 
 use crate::Cost;
 use mesh::checked::CheckedVertex;
@@ -17,7 +17,7 @@ pub struct Joint<A: Cost, B: Cost> {
 impl<A: Cost, B: Cost> Cost for Joint<A, B> {
     ghost parts = { λ j. joint (A.Cost.parts j.first) (B.Cost.parts j.second) };
 
-    ghost lawful = { Prim.search rules };
+    ghost lawful = { λ j. joint_lawful (A.Cost.lawful j.first) (B.Cost.lawful j.second) };
 
     fn face_part(&self, a: CheckedVertex, b: CheckedVertex, c: CheckedVertex) -> u64 {
         let sum = self.first.face_part(a, b, c) + self.second.face_part(a, b, c);
@@ -46,7 +46,7 @@ pub struct Scaled<C: Cost> {
 impl<C: Cost> Cost for Scaled<C> {
     ghost parts = { λ s. scaled s.weight (C.Cost.parts s.cost) };
 
-    ghost lawful = { Prim.search rules };
+    ghost lawful = { λ s. scaled_lawful s.weight (C.Cost.lawful s.cost) };
 
     fn face_part(&self, a: CheckedVertex, b: CheckedVertex, c: CheckedVertex) -> u64 {
         let part = u64::from(self.weight.min(16)) * self.cost.face_part(a, b, c);

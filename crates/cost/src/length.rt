@@ -1,7 +1,7 @@
 // The squared plan distance of an edge's ends.
 ghost use Rattle.std.specs.Prelude.{◌≡◌, ◌≤◌};
 ghost use Rattle.cost.specs.Costs.{square_gap, length as plan_length};
-ghost use Rattle.std.proofs.Common.{rules};
+ghost use Rattle.cost.specs.Lawful.{length_lawful};
 
 use crate::Cost;
 use mesh::checked::CheckedVertex;
@@ -22,7 +22,7 @@ pub(crate) fn square_gap(x: u32, y: u32) -> u64
 impl Cost for Length {
     ghost parts = { λ _. plan_length };
 
-    ghost lawful = { Prim.search rules };
+    ghost lawful = { λ _. length_lawful };
 
     fn face_part(&self, a: CheckedVertex, b: CheckedVertex, c: CheckedVertex) -> u64 {
         0

@@ -2,7 +2,7 @@
 use Rattle.std.proofs.Common.{◌≡◌, ℕ, ◌*◌, ◌<◌, ◌≤◌, Bool, true, cond, not, ◌&&◌, T, eqb, ltb, ◌≢◌, ◌↔◌, ℤ, pos, ◌<ℤ◌, sym, refl, ap, ◌∙◌, subst, ⊎_elim, arith}
 use lib.Signed.{lt_z_yes}
 use Rattle.std.proofs.lemmas.Bool.{eq-eqb, ne_eqb, eqb-false, ltb-true, not-true, and_parts, cases_eq, cond_both}
-use Rattle.arith.proofs.Reindexing.{Permutes, tally_permuted}
+use Rattle.arith.proofs.Reindexing.{tally_permuted}
 use Rattle.mesh.specs.declared.Point.{Point}
 use Rattle.mesh.specs.Geometry.{orientation, positive, place}
 use Rattle.mesh.specs.Meshes.{Mesh, next, previous, no_twin, used, half, vertex, origin_point, twin_of, has_twin}

@@ -1,5 +1,5 @@
 -- A mesh with one more vertex is sound, if two half-edges moved, those round the new vertex are twins in pairs, and all others are as before.
-use Rattle.std.proofs.Common.{◌≡◌, ℕ, ◌+◌, ◌-◌, ◌*◌, ◌<◌, ◌≤◌, true, false, not, T, eqb, ◌≢◌, ◌⊎◌, ◌↔◌, List, length, pos, ◌<ℤ◌, sym, ap, ◌∙◌, subst, ap₂, inl, inr, ⊎_elim, arith}
+use Rattle.std.proofs.Common.{◌≡◌, ℕ, ◌+◌, ◌*◌, ◌<◌, ◌≤◌, true, false, not, T, eqb, ◌≢◌, ◌⊎◌, ◌↔◌, List, length, pos, ◌<ℤ◌, sym, ap, ◌∙◌, subst, ap₂, inl, inr, ⊎_elim, arith}
 use Rattle.std.proofs.lemmas.List.{length-set, get_or-set_same, get_or-set_other}
 use Rattle.std.proofs.lemmas.Bool.{both_ways, and_left, and_right, or_from, eq-eqb, ne_eqb, cases_eq}
 use Rattle.arith.specs.Ranges.{tally}

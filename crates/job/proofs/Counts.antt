@@ -9,8 +9,8 @@ use Rattle.mesh.specs.Edits.{laid, added, added_in}
 use Rattle.cost.specs.Costs.{Parts}
 use Rattle.worklist.specs.Orders.{Order}
 use Rattle.job.specs.declared.Call.TheVariants.{Lay, Add}
-use Rattle.job.specs.declared.Answer.TheVariants.{Refused, Laid, Added}
-use Rattle.job.specs.Rule.{State, Rule, Decided, is_full, faults, refusal, first_fault}
+use Rattle.job.specs.declared.Answer.TheVariants.{Laid, Added}
+use Rattle.job.specs.Rule.{State, Rule, Decided, faults, refusal, first_fault}
 
 abbrev Clear : List (ℕ × Bool) → Type 0
 Clear [] = Unit {0}

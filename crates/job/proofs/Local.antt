@@ -10,13 +10,13 @@ use Rattle.mesh.proofs.Rings.{next_used, previous_used}
 use Rattle.mesh.specs.Edits.{half_edge}
 use Rattle.editing.proofs.Relabelling.{relabel, stays}
 use Rattle.editing.proofs.Quadrilaterals.{Edge, Outside, outside_next, outside_previous, edge_of, not_none}
-use Rattle.editing.proofs.Standing.{after, from_other, turned_at}
+use Rattle.editing.proofs.Standing.{from_other, turned_at}
 use Rattle.editing.proofs.FlipSound.{M, flipped_is, label_below, label_home, s_stays, t_stays, twin_at, flippable_known}
 use Rattle.editing.proofs.FlipLaws.{flip_keeps_sound}
 use Rattle.cost.specs.Costs.{Parts, LawfulCost, end, edge_cost, face_sum, edge_sum, total}
 use Rattle.job.specs.Quads.{face_at, side_at, quad_cost, FlipIsLocal}
 use Rattle.job.proofs.Sides.{across, across_yes, across_no, twinned, lone, has_one}
-use Rattle.job.proofs.Quads.{six, six_few, six_outside, face_thrice, faces_thrice, beyond, five, edges_part}
+use Rattle.job.proofs.Quads.{six, six_few, six_outside, face_thrice, faces_thrice, five, edges_part}
 
 module _ (K : Parts) (lawful : LawfulCost K) (m : Mesh) (σ : Sound m) (s t : ℕ) (ε : Edge m s t) (σ' : Sound (M m σ s t ε)) where
   abbrev m' : Mesh

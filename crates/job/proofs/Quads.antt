@@ -1,5 +1,5 @@
 -- A mesh's cost, parted into that of one quadrilateral and the rest.
-use Rattle.std.proofs.Common.{◌≡◌, ℕ, ◌+◌, ◌-◌, ◌*◌, ◌<◌, Bool, true, false, cond, eqb, ◌≢◌, List, [], ◌∷◌, sym, refl, ap, ◌∙◌, ⊎_elim, arith}
+use Rattle.std.proofs.Common.{◌≡◌, ℕ, ◌+◌, ◌*◌, ◌<◌, Bool, true, false, cond, eqb, ◌≢◌, List, [], ◌∷◌, sym, refl, ap, ◌∙◌, ⊎_elim, arith}
 use Rattle.std.proofs.lemmas.Bool.{or_from, or_parts, or_left, or_right, eq-eqb, ne_eqb, eqb-false, cases_Bool, cond-true, cond-false}
 use Rattle.arith.specs.Ranges.{sum, sum_over}
 use Rattle.arith.proofs.Sums.{sum_same, sum_sum, sum_times}

@@ -1,5 +1,5 @@
 -- The calls as one relation: what each answers and leaves, for every memory and every worklist.
-use Rattle.std.specs.Prelude.{◌≡◌, ℕ, ◌+◌, ◌<◌, ◌≤◌, Bool, true, false, cond, not, ◌&&◌, ◌||◌, List, [], ◌∷◌, ◌++◌, length, is_some, Some, None, Ok, Err, Option, Result, nat_le, nat_lt}
+use Rattle.std.specs.Prelude.{◌≡◌, ℕ, ◌+◌, Bool, cond, not, ◌&&◌, ◌||◌, List, [], ◌∷◌, ◌++◌, length, is_some, Some, None, Ok, Err, Option, Result, nat_le, nat_lt}
 use Rattle.mesh.specs.declared.Header.{Header}
 use Rattle.mesh.specs.declared.Vertex.{Vertex}
 use Rattle.mesh.specs.declared.HalfEdge.{HalfEdge}

@@ -1,14 +1,14 @@
 -- The test of soundness decides soundness, and what its first parts tell already.
-use Rattle.std.proofs.Common.{◌≡◌, ℕ, zero, suc, ◌+◌, ◌-◌, ◌*◌, ◌<◌, ◌≤◌, Bool, true, false, not, ◌&&◌, ◌||◌, T, eqb, ltb, leb, ◌≢◌, ◌⊎◌, ◌↔◌, length, pos, ◌<ℤ◌, sym, refl, ap, ◌∙◌, inl, inr, ⊎_elim, arith}
+use Rattle.std.proofs.Common.{◌≡◌, ℕ, zero, suc, ◌-◌, ◌*◌, ◌<◌, ◌≤◌, Bool, true, false, not, ◌&&◌, ◌||◌, T, eqb, ltb, leb, ◌≢◌, ◌↔◌, length, sym, refl, ap, ◌∙◌, ⊎_elim, arith}
 use mathlib.Core.Bool.{beq}
 use lib.Signed.{lt_z_yes}
-use Rattle.std.proofs.lemmas.Bool.{both_ways, and_parts, and_from, or_cases, or_left, or_right, not-true, not-false, not_from_true, not_from_false, eqb-true, eqb-false, leb-true, ltb-true, eq-eqb, ne_eqb, le-leb, lt-ltb, cases_eq, cases_lt, cases_Bool}
+use Rattle.std.proofs.lemmas.Bool.{both_ways, and_parts, and_from, not-false, eqb-true, leb-true, ltb-true, eq-eqb, ne_eqb, le-leb, lt-ltb, cases_lt, cases_Bool}
 use Rattle.arith.specs.Ranges.{every, tally}
 use Rattle.arith.proofs.Ranges.{every_at, every_from}
 use Rattle.mesh.specs.declared.Header.{Header}
 use Rattle.mesh.specs.declared.Point.{Point}
-use Rattle.mesh.specs.Geometry.{InPlan, orientation, positive, place}
-use Rattle.mesh.specs.Meshes.{Mesh, next, no_twin, used, faces, half, vertex, origin_point, twin_of, has_twin}
+use Rattle.mesh.specs.Geometry.{InPlan, place}
+use Rattle.mesh.specs.Meshes.{Mesh, next, no_twin, used, faces, half, vertex, twin_of, has_twin}
 use Rattle.mesh.specs.Sound.{Sound, Roomy, Placed, Stands, extent_fits, lists_fit, stands_at, strictly_inside, corners_stand, vertex_fits, origin_fits, pin_fits, along_border, border_agrees, twins_agree, twin_fits, face_turns, is_placed, is_joined, is_sound}
 
 -- ---- tests

@@ -1,5 +1,5 @@
 -- The rectangle just laid holds no index outside its lists.
-use Rattle.std.proofs.Common.{◌≡◌, ℕ, zero, suc, ◌<◌, ◌≤◌, ◌≢◌, List, [], ◌∷◌, length, set, refl, arith, lit<}
+use Rattle.std.proofs.Common.{ℕ, zero, suc, ◌<◌, ◌≤◌, ◌≢◌, List, [], ◌∷◌, length, refl, arith, lit<}
 use Rattle.std.proofs.lemmas.List.{length-set}
 use Rattle.mesh.specs.declared.HalfEdge.{HalfEdge}
 use Rattle.mesh.specs.declared.Plan.{Plan}

@@ -1,6 +1,6 @@
 -- Laws of the orientation: it may be read from any corner, and changes its sign with the direction.
-use Rattle.std.proofs.Common.{◌≡◌, ℕ, ◌+◌, ◌*◌, List, [], ◌∷◌, ℤ, pos, ◌-ℤ◌, refl}
-use Rattle.arith.proofs.Ring.{Ex, var, con, ◌⊕◌, ◌⊖◌, ◌⊗◌, ring}
+use Rattle.std.proofs.Common.{◌≡◌, ℕ, ◌+◌, ◌*◌, List, [], ◌∷◌, ℤ, pos}
+use Rattle.arith.proofs.Ring.{Ex, var, ◌⊖◌, ◌⊗◌, ring}
 use Rattle.mesh.specs.declared.Point.{Point}
 use Rattle.mesh.specs.Geometry.{orientation}
 

@@ -1,6 +1,5 @@
 -- What lay and add write. No entry past those in use changes.
-use Rattle.std.specs.Prelude.{ℕ, ◌+◌, ◌*◌, Bool, true, false, cond, List, Some, None, Option, ◌==◌, slice_set}
-use Rattle.mesh.specs.declared.Header.{Header}
+use Rattle.std.specs.Prelude.{ℕ, ◌+◌, ◌*◌, Bool, cond, List, Some, None, Option, ◌==◌, slice_set}
 use Rattle.mesh.specs.declared.Point.{Point}
 use Rattle.mesh.specs.declared.Vertex.{Vertex}
 use Rattle.mesh.specs.declared.HalfEdge.{HalfEdge}

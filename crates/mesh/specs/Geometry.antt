@@ -1,5 +1,5 @@
 -- Points of the plane, triangles, and which of two neighbours owns the points of a shared side.
-use Rattle.std.specs.Prelude.{ℕ, ◌≤◌, min, Bool, true, false, ◌&&◌, ◌||◌, ℤ, pos, negsuc, ◌-ℤ◌, ◌*ℤ◌, ◌==◌, int_lt, nat_lt}
+use Rattle.std.specs.Prelude.{ℕ, ◌≤◌, min, Bool, false, ◌&&◌, ◌||◌, ℤ, pos, negsuc, ◌-ℤ◌, ◌*ℤ◌, ◌==◌, int_lt, nat_lt}
 use Rattle.std.proofs.Math.Nat.{min-le_right}
 use Rattle.mesh.specs.declared.Point.{Point}
 use Rattle.mesh.specs.declared.Vertex.{Vertex}

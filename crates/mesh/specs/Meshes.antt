@@ -1,5 +1,5 @@
 -- A triangulated rectangle: face f has the half-edges 3f, 3f + 1 and 3f + 2, counterclockwise.
-use Rattle.std.specs.Prelude.{ℕ, ◌+◌, ◌-◌, ◌*◌, ◌%◌, min, Bool, cond, not, ◌&&◌, List, Option, ◌==◌, nat_lt, slice_index_or}
+use Rattle.std.specs.Prelude.{ℕ, ◌+◌, ◌-◌, ◌*◌, ◌%◌, Bool, cond, not, ◌&&◌, List, Option, ◌==◌, nat_lt, slice_index_or}
 use Rattle.arith.specs.Ranges.{select, first}
 use Rattle.mesh.specs.declared.Header.{Header}
 use Rattle.mesh.specs.declared.Point.{Point}

@@ -1,5 +1,5 @@
 -- When a header, its vertices and its half-edges are a mesh of the rectangle.
-use Rattle.std.specs.Prelude.{◌≡◌, ℕ, ◌+◌, ◌-◌, ◌*◌, ◌<◌, ◌≤◌, Bool, true, not, ◌&&◌, ◌||◌, T, ◌≢◌, ◌↔◌, length, pos, ◌<ℤ◌, is_some, ◌==◌, nat_le, nat_lt}
+use Rattle.std.specs.Prelude.{◌≡◌, ℕ, ◌+◌, ◌-◌, ◌*◌, ◌<◌, ◌≤◌, Bool, not, ◌&&◌, ◌||◌, T, ◌≢◌, ◌↔◌, length, pos, ◌<ℤ◌, is_some, ◌==◌, nat_le, nat_lt}
 use Rattle.std.specs.Bool.{beq}
 use Rattle.arith.specs.Ranges.{every, tally, first}
 use Rattle.mesh.specs.declared.Header.{Header}

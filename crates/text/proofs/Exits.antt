@@ -1,5 +1,5 @@
 -- How a line's reader leaves: with a fault that ends the script, or with the call that the line asks for.
-use Rattle.std.proofs.Common.{◌≡◌, ℕ, IsErrAnd, Ok, Err, Result, sym, refl, ap, ◌∙◌, subst, arith, MatchResult}
+use Rattle.std.proofs.Common.{◌≡◌, ℕ, IsErrAnd, Ok, Err, Result, sym, ap, ◌∙◌, subst, arith, MatchResult}
 use Rattle.std.proofs.lemmas.Result.{err_from_is_err_and}
 use Rattle.job.specs.declared.Call.{Call}
 use Rattle.text.specs.declared.Fault.{Fault}

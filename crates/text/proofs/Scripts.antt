@@ -1,12 +1,12 @@
 -- The steps of a script: what one more line of a text asks for.
-use Rattle.std.proofs.Common.{◌≡◌, ℕ, suc, ◌<◌, true, false, cond, List, [], ◌∷◌, ◌++◌, length, Some, None, refl, ap, ◌∙◌, arith}
+use Rattle.std.proofs.Common.{◌≡◌, ℕ, suc, ◌<◌, true, false, List, [], ◌∷◌, ◌++◌, length, refl, ap, ◌∙◌, arith}
 use Rattle.std.specs.Str.{bytes_eq}
 use Rattle.job.specs.declared.Call.TheVariants.{Lay, Add}
 use Rattle.mesh.specs.declared.Refusal.TheVariants.{Names, Values}
 use Rattle.text.specs.declared.names.Columns.{Columns}
 use Rattle.text.specs.Lines.{plan_names, columns, plan, vertex}
 use Rattle.text.specs.Pieces.{pieces, Lacks}
-use Rattle.text.specs.Scripts.{Script, ends, stops, asked, left_over, from_vertices, by_columns, from_columns, from_plan, from_names, script}
+use Rattle.text.specs.Scripts.{Script, ends, stops, asked, from_vertices, by_columns, from_columns, from_plan, from_names, script}
 use Rattle.text.proofs.Cuts.{pieces_whole, pieces_cut, pieces_some, pieces_empty}
 
 -- what follows an ended line is at least one piece

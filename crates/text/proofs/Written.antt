@@ -1,5 +1,5 @@
 -- What is written is read back.
-use Rattle.std.proofs.Common.{◌≡◌, ℕ, zero, suc, ◌+◌, ◌^◌, ◌<◌, ◌≤◌, Bool, true, false, cond, not, ◌&&◌, eqb, List, [], ◌∷◌, ◌++◌, map, length, get_or, Some, None, Ok, decimal, sym, refl, ap, ◌∙◌, suc-le-suc, zero-le, arith, rules}
+use Rattle.std.proofs.Common.{◌≡◌, ℕ, zero, suc, ◌^◌, ◌<◌, Bool, true, not, ◌&&◌, eqb, List, [], ◌∷◌, ◌++◌, map, length, get_or, Some, None, Ok, decimal, refl, ap, ◌∙◌, arith, rules}
 use Rattle.std.proofs.lemmas.Fmt.{decimal_digit, decimal_nonempty, first_decimal, length-decimal-le, digits_decimal, digits_value-decimal}
 use Rattle.std.proofs.lemmas.Str.Parse.{IsNumeralModel, numerals_by_fold, not_in_digits}
 use Rattle.std.proofs.lemmas.List.{length-map}
@@ -17,7 +17,7 @@ use Rattle.text.specs.Pieces.{pieces, Lacks}
 use Rattle.text.specs.Lines.{plan_names, vertex_names, columns, plan_of, vertex_of, plan, vertex}
 use Rattle.text.specs.ReadBack.{spaced, plan_values, vertex_values, line_before, vertex_lines, file, Writable, WritablePlan, WritableVertex, ReadsBack}
 use Rattle.text.specs.Scripts.{asks, asked, from_vertices, by_columns, from_columns}
-use Rattle.text.specs.Values.{is_digit, all_digits, read_on, well_written, value, values_from, values}
+use Rattle.text.specs.Values.{all_digits, read_on, well_written, value, values_from, values}
 use Rattle.text.proofs.Cuts.{lacks_head, lacks_tail, pieces_whole, pieces_cut}
 use Rattle.text.proofs.LineValues.{values_read}
 use Rattle.text.proofs.Scripts.{names_right, plan_line, columns_line, vertices_none, vertices_line}

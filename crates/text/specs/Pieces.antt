@@ -1,5 +1,5 @@
 -- A text cut at its separators.
-use Rattle.std.specs.Prelude.{◌≡◌, ℕ, ◌<◌, Bool, true, false, List, [], ◌∷◌, length, ◌==◌, ◌≢◌, slice_index}
+use Rattle.std.specs.Prelude.{ℕ, ◌<◌, Bool, true, false, List, [], ◌∷◌, length, ◌==◌, ◌≢◌, slice_index}
 
 -- a separator starts a new piece; any other byte goes to the front of the first piece
 abbrev pub placed : Bool → ℕ → List (List ℕ) → List (List ℕ)

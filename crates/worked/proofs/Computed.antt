@@ -12,9 +12,9 @@ use Rattle.mesh.specs.Refusals.{number}
 use Rattle.cost.specs.Costs.{fold, total, face_sum, edge_sum, weight, face_owns, face_height, misfit_at}
 use Rattle.worklist.specs.Orders.{fifo, Puts, Refilled}
 use Rattle.job.specs.declared.Call.{Call}
-use Rattle.job.specs.declared.Call.TheVariants.{Lay, Add, Flip, Pin, Unpin}
+use Rattle.job.specs.declared.Call.TheVariants.{Lay, Add, Flip, Unpin}
 use Rattle.job.specs.declared.Answer.{Answer}
-use Rattle.job.specs.declared.Answer.TheVariants.{Refused, Laid, Added, Flipped, Pinned, Unpinned}
+use Rattle.job.specs.declared.Answer.TheVariants.{Refused, Laid, Added, Flipped, Unpinned}
 use Rattle.job.specs.Rule.{State, Decided, Rule, faults, refusal}
 use Rattle.job.proofs.Only.{rule_only, fifo_functional}
 use Rattle.worked.specs.Worked.{Worked, Exactly, Refuses, at, plan, blank, square, square_pinned, dotted, crossed, halved, halved_pinned}

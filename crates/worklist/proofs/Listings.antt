@@ -1,11 +1,10 @@
 -- Different numbers below a bound beside a table that says which are listed.
-use Rattle.std.proofs.Common.{◌≡◌, ℕ, zero, suc, ◌<◌, ◌≤◌, Bool, true, false, not, ◌||◌, eqb, ltb, List, [], ◌∷◌, length, get_or, set, replicate, sym, refl, ap, ◌∙◌, ⊎_elim, arith}
-use Rattle.std.specs.List.{remove}
+use Rattle.std.proofs.Common.{◌≡◌, ℕ, ◌<◌, Bool, true, false, not, ◌||◌, ltb, List, [], ◌∷◌, length, get_or, set, replicate, sym, refl, ap, ◌∙◌, ⊎_elim, arith}
 use Rattle.std.proofs.lemmas.List.{get_or-replicate, get_or-set_other, get_or-set_same, length-set, length-replicate}
-use Rattle.std.proofs.lemmas.Bool.{both_ways, and_parts, and_from, or_left, or_right, not-true, not_from_false, eq-eqb, ne_eqb, lt-ltb, ltb-true, cases_eq}
+use Rattle.std.proofs.lemmas.Bool.{both_ways, and_parts, and_from, not-true, not_from_false, ne_eqb, lt-ltb, ltb-true, cases_eq}
 use Rattle.worklist.specs.Orders.{Order, Inserted, Put, among, different, below, unmarked}
 use Rattle.worklist.proofs.Tables.{pigeon}
-use Rattle.worklist.specs.Insertions.{among_inserted_same, among_inserted_other, different_inserted, below_inserted, below_among}
+use Rattle.worklist.specs.Insertions.{among_inserted_same, among_inserted_other, different_inserted, below_inserted}
 
 -- what `unmarked` tests
 pub unmarked_parts : (t : List Bool) (k : ℕ) → true ≡ unmarked t k → (k < length t) × (get_or t k false ≡ false)

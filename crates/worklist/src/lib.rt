@@ -4,7 +4,6 @@
 ghost use Rattle.std.specs.Prelude.{◌≡◌, ℕ, ◌<◌, ◌≤◌, true, false, List, [], length, IfOk, slice_index_or};
 ghost use Rattle.std.specs.VecDeque.{deque_capacity};
 ghost use Rattle.worklist.specs.Orders.{LawfulOrder, among, different, below, Put, TakenFirst, fifo, fifo_lawful};
-ghost use Rattle.std.proofs.Common.{rules, arith};
 
 pub mod lifo;
 pub mod lowest;
@@ -76,9 +75,9 @@ impl Worklist for Fifo {
 
     ghost lawful = { fifo_lawful };
 
-    ghost apart = { first_of (Prim.search rules, Prim.grind (arith, Self.row.coded.inj)) };
+    ghost apart = { λ l. l.alone };
 
-    ghost small = { first_of (Prim.search rules, Prim.grind (arith, Self.row.coded.inj)) };
+    ghost small = { λ l. l.low };
 
     fn clear(&mut self) {
         self.queue.clear();

@@ -2,7 +2,6 @@
 ghost use Rattle.std.specs.Prelude.{◌≡◌, [], IfOk};
 ghost use Rattle.worklist.specs.Orders.{lifo};
 ghost use Rattle.worklist.specs.Lawful.{lifo_lawful};
-ghost use Rattle.std.proofs.Common.{rules};
 
 use crate::Worklist;
 use crate::queue::Queue;
@@ -30,9 +29,9 @@ impl Worklist for Lifo {
 
     ghost lawful = { lifo_lawful };
 
-    ghost apart = { Prim.search rules };
+    ghost apart = { λ l. l.queue.alone };
 
-    ghost small = { Prim.search rules };
+    ghost small = { λ l. l.queue.low };
 
     fn clear(&mut self) {
         self.queue.clear();

@@ -1,4 +1,4 @@
-use Rattle.std.proofs.Common.{◌≡◌, sym, refl, ◌∙◌}
+use Rattle.std.proofs.Common.{sym, refl, ◌∙◌}
 use Rattle.std.proofs.lemmas.Bool.{or_parts, ltb-false}
 use Rattle.mesh.specs.Meshes.{seen}
 use Rattle.job.proofs.Refusing.{lay_refusal}

@@ -1,4 +1,4 @@
-use Rattle.std.proofs.Common.{◌≡◌, sym, ◌∙◌, arith}
+use Rattle.std.proofs.Common.{sym, ◌∙◌, arith}
 use Rattle.arith.proofs.Ranges.{every_more, every_stops}
 use Rattle.mesh.specs.Meshes.{seen, used}
 use Rattle.mesh.specs.Sound.{border_agrees}

@@ -1,4 +1,4 @@
-use Rattle.std.proofs.Common.{◌≡◌, sym, ◌∙◌, arith}
+use Rattle.std.proofs.Common.{sym, ◌∙◌, arith}
 use Rattle.arith.proofs.Ranges.{every_more, every_stops}
 use Rattle.mesh.specs.Meshes.{seen, faces}
 use Rattle.mesh.specs.Sound.{face_turns}

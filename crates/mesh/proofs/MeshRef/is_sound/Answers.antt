@@ -1,6 +1,6 @@
-use Rattle.std.proofs.Common.{◌≡◌, false, ◌&&◌, sym, ap, ◌∙◌, ap₂}
+use Rattle.std.proofs.Common.{◌≡◌, false, ◌&&◌, sym, ap, ◌∙◌}
 use Rattle.mesh.specs.Meshes.{seen}
-use Rattle.mesh.specs.Sound.{is_sound, is_placed, is_joined}
+use Rattle.mesh.specs.Sound.{is_sound, is_joined}
 use Rattle.mesh.proofs.Decide.{placed_known, decided}
 use Rattle.mesh.proofs.MeshRef.is_sound.Goals as goal
 

@@ -1,4 +1,4 @@
-use Rattle.std.proofs.Common.{◌≡◌, ℕ, None, sym, ap, ◌∙◌, subst, arith}
+use Rattle.std.proofs.Common.{◌≡◌, ℕ, None, sym, ◌∙◌, subst, arith}
 use Rattle.arith.specs.Ranges.{first}
 use Rattle.arith.proofs.Ranges.{first_none, first_found}
 use Rattle.mesh.specs.Meshes.{seen, faces, face_owns, owner}

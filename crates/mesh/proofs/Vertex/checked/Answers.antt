@@ -1,4 +1,4 @@
-use Rattle.std.proofs.Common.{arith, rules}
+use Rattle.std.proofs.Common.{rules}
 use Rattle.mesh.proofs.Vertices.{same_checked}
 use Rattle.mesh.proofs.Vertex.checked.Goals as goal
 

@@ -1,4 +1,4 @@
-use Rattle.std.proofs.Common.{◌≡◌, ◌<◌, sym, ap, ◌∙◌, arith, rules}
+use Rattle.std.proofs.Common.{◌<◌, sym, ap, ◌∙◌, arith, rules}
 use Rattle.mesh.specs.Meshes.{mesh, used, twin_of}
 use Rattle.mesh.specs.Geometry.{place}
 use Rattle.mesh.specs.declared.Point.{Point}

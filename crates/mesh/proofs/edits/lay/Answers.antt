@@ -1,4 +1,3 @@
-use Rattle.std.proofs.Common.{◌≡◌}
 use Rattle.mesh.specs.Edits.{laid}
 use Rattle.mesh.proofs.edits.lay.Goals as goal
 

@@ -1,4 +1,3 @@
-use Rattle.std.proofs.Common.{◌≡◌}
 use Rattle.mesh.specs.Edits.{split_edge}
 use Rattle.mesh.proofs.edits.split_edge.Goals as goal
 

@@ -1,4 +1,3 @@
-use Rattle.std.proofs.Common.{◌≡◌}
 use Rattle.mesh.specs.Edits.{split_face}
 use Rattle.mesh.proofs.edits.split_face.Goals as goal
 

@@ -1,4 +1,4 @@
-use Rattle.std.proofs.Common.{◌≡◌, [], ◌∷◌, length, get_or, drop, sym, refl, ap, ◌∙◌, arith}
+use Rattle.std.proofs.Common.{length, ap, ◌∙◌, arith}
 use Rattle.text.specs.Pieces.{pieces}
 use Rattle.text.proofs.Cuts.{pieces_whole, pieces_cut}
 use Rattle.text.proofs.fields.first_field.Goals as goal

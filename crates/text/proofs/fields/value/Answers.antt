@@ -1,7 +1,7 @@
-use Rattle.std.proofs.Common.{◌≡◌, ◌-◌, ◌<◌, true, false, length, get_or, sym, refl, ap, ◌∙◌, inl, inr, arith}
+use Rattle.std.proofs.Common.{◌<◌, length, inl, inr, arith}
 use Rattle.std.proofs.lemmas.Bool.{ltb-true, ltb-false}
 use Rattle.std.proofs.lemmas.Result.{err_from_is_err_and}
-use Rattle.text.proofs.Numbers.{cond_ok, cond_err, field_empty, field_refused, field_read, ok_or_cond, rest_of}
+use Rattle.text.proofs.Numbers.{cond_ok, cond_err, field_empty, field_refused, field_read, ok_or_cond}
 use Rattle.text.proofs.fields.value.Goals as goal
 use Rattle.text.proofs.fields.value.Goals.{then-rest-gt4-via-then-rest-gt4, then-rest-gt4-via-else-rest-gt4+then-rest-gt0}
 

@@ -1,8 +1,8 @@
-use Rattle.std.proofs.Common.{◌≡◌, ℕ, ◌+◌, length, Ok, Err, Result, sym, refl, ap, ◌∙◌, subst, arith}
+use Rattle.std.proofs.Common.{◌≡◌, ℕ, ◌+◌, length, Err, Result, sym, refl, ap, ◌∙◌, subst, arith}
 use Rattle.mesh.specs.declared.Refusal.{Refusal}
 use Rattle.job.specs.declared.Call.TheVariants.{Add}
 use Rattle.job.specs.declared.Answer.TheVariants.{Refused, Added}
-use Rattle.job.specs.Rule.{State, state, Rule, answered}
+use Rattle.job.specs.Rule.{state, Rule, answered}
 use Rattle.text.specs.declared.Fault.{Fault}
 use Rattle.text.specs.Lines.{in_line}
 use Rattle.text.specs.Pieces.{pieces}

@@ -1,5 +1,4 @@
-use Rattle.std.proofs.Common.{◌≡◌, sym, ap, ◌∙◌}
-use Rattle.text.specs.Lines.{columns}
+use Rattle.std.proofs.Common.{sym, ap, ◌∙◌}
 use Rattle.text.specs.Pieces.{pieces}
 use Rattle.text.specs.Scripts.{halts, by_columns}
 use Rattle.text.proofs.Exits.{exits}

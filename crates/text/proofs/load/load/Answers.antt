@@ -1,8 +1,8 @@
-use Rattle.std.proofs.Common.{◌≡◌, ℕ, Result, sym, ap, ◌∙◌, subst}
+use Rattle.std.proofs.Common.{ℕ, Result, ap, ◌∙◌, subst}
 use Rattle.mesh.specs.declared.Refusal.{Refusal}
 use Rattle.job.specs.declared.Call.TheVariants.{Lay}
 use Rattle.job.specs.declared.Answer.TheVariants.{Laid}
-use Rattle.job.specs.Rule.{State, state, Rule, answered}
+use Rattle.job.specs.Rule.{state, Rule, answered}
 use Rattle.job.proofs.Counts.{lay_count}
 use Rattle.text.specs.Lines.{in_line}
 use Rattle.text.proofs.Loads.{place_ok}

@@ -1,4 +1,4 @@
-use Rattle.std.proofs.Common.{◌≡◌, sym, ap, ◌∙◌}
+use Rattle.std.proofs.Common.{sym, ap, ◌∙◌}
 use Rattle.text.specs.Scripts.{halts}
 use Rattle.text.proofs.Exits.{exits}
 use Rattle.text.proofs.Scripts.{names_unended, names_wrong, names_right}

@@ -1,4 +1,4 @@
-use Rattle.std.proofs.Common.{◌≡◌, sym, ap, ◌∙◌}
+use Rattle.std.proofs.Common.{sym, ap, ◌∙◌}
 use Rattle.job.specs.declared.Call.TheVariants.{Lay}
 use Rattle.text.specs.Lines.{plan, in_line}
 use Rattle.text.specs.Pieces.{pieces}

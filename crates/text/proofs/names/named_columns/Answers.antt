@@ -1,4 +1,4 @@
-use Rattle.std.proofs.Common.{◌≡◌, sym, refl, ◌∙◌}
+use Rattle.std.proofs.Common.{sym, ◌∙◌}
 use Rattle.text.specs.Lines.{columns}
 use Rattle.text.proofs.names.named_columns.Goals as goal
 

@@ -1,4 +1,4 @@
-use Rattle.std.proofs.Common.{◌/◌, sym, arith}
+use Rattle.std.proofs.Common.{sym, arith}
 use Rattle.text.proofs.Figures.{length_digit, length_step, at_most_ten}
 use Rattle.text.proofs.printing.+number_length.Goals as goal
 

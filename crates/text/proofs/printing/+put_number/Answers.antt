@@ -1,5 +1,5 @@
-use Rattle.std.proofs.Common.{◌≡◌, ◌+◌, ◌/◌, ◌<◌, ◌≤◌, length, decimal, sym, ap, ◌∙◌, arith}
-use Rattle.text.proofs.Figures.{length_digit, length_step, at_most_ten, over_digit, over_step}
+use Rattle.std.proofs.Common.{arith}
+use Rattle.text.proofs.Figures.{length_digit, length_step, over_digit, over_step}
 use Rattle.text.proofs.printing.+put_number.Goals as goal
 use Rattle.text.proofs.printing.+put_number.Goals.{then-n-lt10, else-n-lt10}
 

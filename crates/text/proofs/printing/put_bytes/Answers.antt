@@ -1,4 +1,4 @@
-use Rattle.std.proofs.Common.{◌≡◌, refl, arith}
+use Rattle.std.proofs.Common.{refl, arith}
 use Rattle.text.proofs.Overs.{over_part}
 use Rattle.text.proofs.printing.put_bytes.Goals as goal
 

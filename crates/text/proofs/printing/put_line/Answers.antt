@@ -1,5 +1,5 @@
-use Rattle.std.proofs.Common.{◌≡◌, ◌≤◌, [], ◌∷◌, ◌++◌, length, decimal, ap, ◌∙◌, arith}
-use Rattle.text.specs.Printing.{number_line, over}
+use Rattle.std.proofs.Common.{[], ◌∷◌, decimal, ap, ◌∙◌, arith}
+use Rattle.text.specs.Printing.{over}
 use Rattle.text.proofs.Figures.{length_line, line_parts}
 use Rattle.text.proofs.Overs.{Put, put_more}
 use Rattle.text.proofs.printing.put_line.Goals as goal

@@ -1,4 +1,4 @@
-use Rattle.std.proofs.Common.{◌≡◌, ◌+◌, ◌-◌, ◌*◌, length, sym, ap, ◌∙◌, arith}
+use Rattle.std.proofs.Common.{◌≡◌, length, ap, ◌∙◌, arith}
 use Rattle.mesh.specs.Meshes.{seen, faces}
 use Rattle.std.proofs.lemmas.List.{length-append}
 use Rattle.text.specs.Printing.{face_line, face_lines}

@@ -1,7 +1,6 @@
-use Rattle.std.proofs.Common.{◌≡◌, ◌<◌, ◌≤◌, Bool, true, false, cond, length, Ok, Err, sym, refl, ap, ◌∙◌, arith}
+use Rattle.std.proofs.Common.{◌<◌, ◌≤◌, length, Ok, sym, ap, ◌∙◌, arith}
 use Rattle.std.proofs.lemmas.Bool.{cond-true, cond-false, le-leb}
 use Rattle.mesh.specs.Meshes.{seen}
-use Rattle.mesh.specs.Sound.{is_sound, Roomy}
 use Rattle.mesh.proofs.Decide.{true_T}
 use Rattle.mesh.proofs.Indices.{sound_roomy}
 use Rattle.text.specs.Printing.{faces_text, printed, buffer_after, reported, buffer_reported}

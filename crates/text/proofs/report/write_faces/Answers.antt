@@ -1,7 +1,7 @@
-use Rattle.std.proofs.Common.{◌≡◌, ◌+◌, ◌-◌, ◌*◌, ◌≤◌, ◌++◌, length, sym, ap, ◌∙◌, arith}
+use Rattle.std.proofs.Common.{◌≡◌, ◌+◌, ◌≤◌, ◌++◌, length, sym, ap, ◌∙◌, arith}
 use Rattle.mesh.specs.Meshes.{seen, faces}
 use Rattle.std.proofs.lemmas.List.{length-append}
-use Rattle.text.specs.Printing.{number_line, face_line, face_lines, faces_text}
+use Rattle.text.specs.Printing.{number_line, face_line, face_lines}
 use Rattle.text.proofs.Overs.{Put, put_more, put_same}
 use Rattle.text.proofs.Prints.{faces_names, faces_parts, length_faces, face_lines_more, face_line_is, face_lines_below}
 use Rattle.text.proofs.report.write_faces.Goals as goal

@@ -1,4 +1,4 @@
-use Rattle.std.proofs.Common.{◌*◌, ◌^◌, ◌≤◌, min, mul-le-mul, arith}
+use Rattle.std.proofs.Common.{◌*◌, ◌^◌, ◌≤◌, mul-le-mul, arith}
 use Rattle.cost.proofs.combined.ScaledCost.face_part.Goals as goal
 
 pub overflow_mul-part : goal.overflow_mul-part

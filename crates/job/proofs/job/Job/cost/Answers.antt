@@ -1,4 +1,4 @@
-use Rattle.std.proofs.Common.{◌≡◌, Ok, sym, ◌∙◌, ap₂}
+use Rattle.std.proofs.Common.{Ok, sym, ◌∙◌, ap₂}
 use Rattle.std.proofs.lemmas.Bool.{cond-true, cond-false}
 use Rattle.mesh.proofs.Decide.{true_T}
 use Rattle.mesh.proofs.Indices.{sound_indexed}
