@@ -7,7 +7,7 @@ use Rattle.std.proofs.lemmas.Bool.{and_parts, not-true, eqb-false}
 use Rattle.std.proofs.lemmas.Bool.Decides.{nat_tests}
 use Rattle.std.specs.Result.{result_map_both}
 use Rattle.std.specs.Int.{IsInRange}
-use Rattle.std.specs.List.{AllByRecursion as All}
+use Rattle.std.specs.List.{AllByRecursion}
 use Rattle.job.specs.declared.Call.TheVariants.{Lay, Add}
 use Rattle.mesh.specs.declared.Plan.{Plan}
 use Rattle.mesh.specs.declared.Vertex.{Vertex}
@@ -73,24 +73,24 @@ lacks_tested b (x ∷ xs) e =
 wide : (n : ℕ) → Writable n → n < 2 ^ 64
 wide n h = omega arith
 
-lacks_spaced : (vs : List ℕ) → All Writable vs → Lacks 10 (spaced vs)
+lacks_spaced : (vs : List ℕ) → AllByRecursion Writable vs → Lacks 10 (spaced vs)
 lacks_spaced [] all = lacks_none 10
 lacks_spaced (v ∷ []) all = lacks_decimal 10 v (wide v all.0) (λ i. omega arith)
 lacks_spaced (v ∷ (w ∷ vs)) all =
     lacks_both 10 (decimal v) (32 ∷ spaced (w ∷ vs)) (lacks_decimal 10 v (wide v all.0) (λ i. omega arith))
     (lacks_more 10 32 (spaced (w ∷ vs)) (λ e. omega arith) (lacks_spaced (w ∷ vs) all.1))
 
-pieces_spaced : (v : ℕ) (vs : List ℕ) → All Writable (v ∷ vs) → pieces 32 (spaced (v ∷ vs)) ≡ map decimal (v ∷ vs)
+pieces_spaced : (v : ℕ) (vs : List ℕ) → AllByRecursion Writable (v ∷ vs) → pieces 32 (spaced (v ∷ vs)) ≡ map decimal (v ∷ vs)
 pieces_spaced v [] all = pieces_whole 32 (decimal v) (lacks_decimal 32 v (wide v all.0) (λ i. omega arith))
 pieces_spaced v (w ∷ vs) all =
     pieces_cut 32 (decimal v) (spaced (w ∷ vs)) (lacks_decimal 32 v (wide v all.0) (λ i. omega arith))
     ∙ ap (λ ps. decimal v ∷ ps) (pieces_spaced w vs all.1)
 
-values_from_written : (field : ℕ) (vs : List ℕ) → All Writable vs → values_from field (map decimal vs) ≡ Ok vs
+values_from_written : (field : ℕ) (vs : List ℕ) → AllByRecursion Writable vs → values_from field (map decimal vs) ≡ Ok vs
 values_from_written field [] all = refl
 values_from_written field (v ∷ vs) all = rw (value_written v all.0, values_from_written (suc field) vs all.1)
 
-pub values_written : (v : ℕ) (vs : List ℕ) → All Writable (v ∷ vs) → values (length (v ∷ vs)) (spaced (v ∷ vs)) ≡ Ok (v ∷ vs)
+pub values_written : (v : ℕ) (vs : List ℕ) → AllByRecursion Writable (v ∷ vs) → values (length (v ∷ vs)) (spaced (v ∷ vs)) ≡ Ok (v ∷ vs)
 values_written v vs all =
     let e = pieces_spaced v vs all in
     values_read (length (v ∷ vs)) (spaced (v ∷ vs)) (ap length e ∙ length-map (v ∷ vs) decimal)
@@ -102,7 +102,7 @@ plan_written : (p : Plan) → WritablePlan p → plan (spaced (plan_values p)) �
 unfolding plan
 plan_written p all = ap (result_map_both plan_of (λ fault. fault)) (values_written p.width (p.depth ∷ p.sw ∷ p.se ∷ p.ne ∷ p.nw ∷ []) all)
 
-vertex_all : (order : Columns) (v : Vertex) → WritableVertex v → All Writable (vertex_values order v)
+vertex_all : (order : Columns) (v : Vertex) → WritableVertex v → AllByRecursion Writable (vertex_values order v)
 vertex_all EastNorthHeight v h = (h.0, (h.1, (h.2, tt)))
 vertex_all EastHeightNorth v h = (h.0, (h.2, (h.1, tt)))
 vertex_all NorthEastHeight v h = (h.1, (h.0, (h.2, tt)))
@@ -128,7 +128,7 @@ lacks_names HeightEastNorth = lacks_tested 10 (vertex_names HeightEastNorth) ref
 lacks_names HeightNorthEast = lacks_tested 10 (vertex_names HeightNorthEast) refl
 
 -- three values in the order of the columns
-three : (order : Columns) (a b c : ℕ) → All Writable (a ∷ b ∷ c ∷ []) → vertex order (spaced (a ∷ b ∷ c ∷ [])) ≡ Ok (vertex_of order a b c)
+three : (order : Columns) (a b c : ℕ) → AllByRecursion Writable (a ∷ b ∷ c ∷ []) → vertex order (spaced (a ∷ b ∷ c ∷ [])) ≡ Ok (vertex_of order a b c)
 unfolding vertex
 three order a b c all = ap (result_map_both (λ vs. vertex_of order (get_or vs 0 0) (get_or vs 1 0) (get_or vs 2 0)) (λ fault. fault)) (values_written a (b ∷ c ∷ []) all)
 
@@ -141,7 +141,7 @@ vertex_written HeightEastNorth v h = three HeightEastNorth v.height v.east v.nor
 vertex_written HeightNorthEast v h = three HeightNorthEast v.height v.north v.east (vertex_all HeightNorthEast v h)
 
 vertices_written :
-    (order : Columns) (line : ℕ) (vs : List Vertex) → All WritableVertex vs →
+    (order : Columns) (line : ℕ) (vs : List Vertex) → AllByRecursion WritableVertex vs →
     from_vertices order line (pieces 10 (vertex_lines order vs)) ≡ record { calls = map Add vs; ending = None }
 vertices_written order line [] all = vertices_none order line [] refl
 vertices_written order line (v ∷ vs) all =

@@ -1,6 +1,6 @@
 -- What is written is read back.
 use Rattle.std.specs.Prelude.{◌≡◌, ℕ, ◌≤◌, List, [], ◌∷◌, ◌++◌, map, None, decimal}
-use Rattle.std.specs.List.{AllByRecursion as All}
+use Rattle.std.specs.List.{AllByRecursion}
 use Rattle.job.specs.declared.Call.TheVariants.{Lay, Add}
 use Rattle.mesh.specs.declared.Plan.{Plan}
 use Rattle.mesh.specs.declared.Vertex.{Vertex}
@@ -48,7 +48,7 @@ abbrev pub Writable : ℕ → Type 0
 Writable n = n ≤ 99999
 
 abbrev pub WritablePlan : Plan → Type 0
-WritablePlan p = All Writable (plan_values p)
+WritablePlan p = AllByRecursion Writable (plan_values p)
 
 abbrev pub WritableVertex : Vertex → Type 0
 WritableVertex v = Writable v.east × Writable v.north × Writable v.height
@@ -56,5 +56,5 @@ WritableVertex v = Writable v.east × Writable v.north × Writable v.height
 -- the file of a plan and of vertices asks for exactly that lay and those adds, in whatever order its columns are
 abbrev pub ReadsBack : Type 0
 ReadsBack =
-    (order : Columns) (p : Plan) (vs : List Vertex) → WritablePlan p → All WritableVertex vs →
+    (order : Columns) (p : Plan) (vs : List Vertex) → WritablePlan p → AllByRecursion WritableVertex vs →
     script (file order p vs) ≡ record { calls = Lay p ∷ map Add vs; ending = None }

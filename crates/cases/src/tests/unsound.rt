@@ -1,5 +1,5 @@
 // Meshes that are none, one for each fact of soundness: every edit by hand is refused by 4 and changes nothing.
-use super::editing::dotted;
+use super::by_hand::dotted;
 use super::site::*;
 use mesh::{HalfEdge, Header};
 use std::test::*;
