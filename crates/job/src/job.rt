@@ -121,7 +121,8 @@ impl<C: Cost, L: Worklist> Job<C, L> {
         half_edges: &mut [HalfEdge],
         s: u32,
     ) -> Result<(u64, u64), Refusal>
-        ensures laws { (FlipLaws) × (FlipCostLaws) }
+        ensures laws { FlipLaws }
+        ensures cost_laws { FlipCostLaws }
         ensures rule { Rule (C.parts self.old.cost) L.order self.old.lookahead
             (state header.old vertices.old half_edges.old (L.waiting self.old.worklist))
             (Flip s) (answered (λ c. Flipped c.0 c.1) result)

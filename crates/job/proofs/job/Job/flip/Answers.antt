@@ -20,7 +20,7 @@ total-after-requires g c =
 -- a refused call
 pub returns-in_err-check_flip : goal.returns-in_err-check_flip
 returns-in_err-check_flip g c =
-    record { laws = (flip_laws, record { flip_is_local = flip_is_local; two_flips_cost = two_flips_cost }); rule = search rules; sound = search rules; cost = search rules; lookahead = search rules }
+    record { laws = flip_laws; cost_laws = record { flip_is_local = flip_is_local; two_flips_cost = two_flips_cost }; rule = search rules; sound = search rules; cost = search rules; lookahead = search rules }
 
 pub returns : goal.returns
 returns g c =
@@ -34,7 +34,8 @@ returns g c =
     (flip_written m c.args.s c.flip.new.half_edges c.flip.ensures) c.refill.ensures
     c.total-before.ensures.value c.total-after.ensures.value in
     record {
-      laws = (flip_laws, record { flip_is_local = flip_is_local; two_flips_cost = two_flips_cost });
+      laws = flip_laws;
+      cost_laws = record { flip_is_local = flip_is_local; two_flips_cost = two_flips_cost };
       rule = rule;
       sound = keeps_sound (g.C.Cost.parts c.args.self.now.cost) t.order c.args.self.now.lookahead before after
           (Flip c.args.s) (Flipped c.total-before.result c.total-after.result) rule;
