@@ -98,7 +98,7 @@ impl Worklist for Fifo {
     }
 
     fn take(&mut self) -> Option<u32> {
-        // `pop_front` says nothing of the capacity; `remove(0)` takes as few steps.
+        // At the front `remove` takes as few steps as `pop_front`.
         match self.queue.remove(0) {
             Some(k) => {
                 self.listed[k as usize] = false;

@@ -64,7 +64,7 @@ impl Queue {
     pub(crate) fn take(&mut self) -> Option<u32>
         ensures after { TakenFirst self.old.numbers.items result self.new.numbers.items }
     {
-        // `pop_front` says nothing of the capacity; `remove(0)` takes as few steps.
+        // At the front `remove` takes as few steps as `pop_front`.
         match self.numbers.remove(0) {
             Some(k) => {
                 self.listed[k as usize] = false;

@@ -1,4 +1,4 @@
-use Rattle.std.proofs.Common.{◌*◌, ◌^◌, ◌≤◌, ℤ, ◌-ℤ◌, ◌*ℤ◌, nat_abs, mul-le-mul, arith, w64, SFits}
+use Rattle.std.proofs.Common.{◌*◌, ◌^◌, ◌≤◌, ℤ, ◌-ℤ◌, ◌*ℤ◌, nat_abs, mul-le-mul, arith, rules, w64, SFits}
 use Rattle.std.proofs.lemmas.Int.{ints, to_z-of_z}
 use Rattle.arith.proofs.Bound.{abs_product, abs_difference}
 use Rattle.arith.proofs.determinant.Goals as goal
@@ -19,20 +19,18 @@ fits_determinant p q r s hp hq hr hs =
 
 pub overflow_mul-result : goal.overflow_mul-result
 overflow_mul-result c =
-    let p = c.ranges.p in let q = c.ranges.q in
-    simp to_z-of_z (fits_product c.args.p c.args.q c.requires.p c.requires.q)
+    let p = c.ranges.p in let q = c.ranges.q in let r = c.ranges.r in let s = c.ranges.s in
+    simp to_z-of_z (search (rules, fits_product))
 
 pub overflow_mul-result-2 : goal.overflow_mul-result-2
 overflow_mul-result-2 c =
-    let r = c.ranges.r in let s = c.ranges.s in
-    simp to_z-of_z (fits_product c.args.r c.args.s c.requires.r c.requires.s)
+    let p = c.ranges.p in let q = c.ranges.q in let r = c.ranges.r in let s = c.ranges.s in
+    simp to_z-of_z (search (rules, fits_product))
 
 pub overflow_sub-result : goal.overflow_sub-result
 overflow_sub-result c =
     let p = c.ranges.p in let q = c.ranges.q in let r = c.ranges.r in let s = c.ranges.s in
-    let f = fits_product c.args.p c.args.q c.requires.p c.requires.q in
-    let g = fits_product c.args.r c.args.s c.requires.r c.requires.s in
-    simp to_z-of_z (fits_determinant c.args.p c.args.q c.args.r c.args.s c.requires.p c.requires.q c.requires.r c.requires.s)
+    simp to_z-of_z (search (rules, fits_product, fits_determinant))
 
 pub returns : goal.returns
 returns c =
