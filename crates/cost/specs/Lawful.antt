@@ -65,8 +65,8 @@ fold_lawful = record {
 
 -- ---- length, and the costs made of costs
 
-square_gap_bounded : (x y : ℕ) → x ≤ 32767 → y ≤ 32767 → square_gap x y ≤ 2 ^ 47
-square_gap_bounded x y h k = let low : (x - y) + (y - x) ≤ 32767 = omega arith in let s = mul-le-mul low low in omega arith
+pub square_gap_bounded : (x y : ℕ) → x ≤ 32767 → y ≤ 32767 → square_gap x y ≤ 1073676289
+square_gap_bounded x y h k = let low : (x - y) + (y - x) ≤ 32767 = omega arith in mul-le-mul low low
 
 square_gap_swaps : (x y : ℕ) → square_gap x y ≡ square_gap y x
 square_gap_swaps x y = let e : (x - y) + (y - x) ≡ (y - x) + (x - y) = omega arith in ap₂ ◌*◌ e e

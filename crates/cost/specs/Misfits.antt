@@ -12,7 +12,7 @@ use Rattle.mesh.specs.Geometry.{orientation, positive, is_zero, keeps, admits, o
 use Rattle.mesh.proofs.Orientations.{coordinates, o, orientation_rotates}
 use Rattle.cost.specs.declared.misfit.Reading.{Reading}
 use Rattle.cost.specs.Costs.{LawfulCost, plan_point, reading_point, weight, face_owns, face_height, square_gap, counts, misfit_at, misfits, misfit}
-use Rattle.cost.specs.Lawful.{area_bounded}
+use Rattle.cost.specs.Lawful.{area_bounded, square_gap_bounded}
 
 -- ---- weights
 
@@ -66,9 +66,6 @@ height_low a b c w e =
 
 -- ---- what one reading adds
 
-gap_small : (x y : ℕ) → x ≤ 32767 → y ≤ 32767 → square_gap x y ≤ 1073676289
-gap_small x y h k = let low : (x - y) + (y - x) ≤ 32767 = omega arith in mul-le-mul low low
-
 -- a reading that counts, and one that does not
 pub misfit_counted : (a b c : CheckedVertex) (g : Reading) → counts a b c g ≡ true → misfit_at a b c g ≡ square_gap g.height (face_height a b c (reading_point g))
 unfolding misfit_at
@@ -84,7 +81,7 @@ misfit_small a b c g = by (counts a b c g) refl
     by : (t : Bool) → counts a b c g ≡ t → misfit_at a b c g ≤ 1073676289
     by true e =
         let p = and_parts (nat_le g.height 32767) (face_owns a b c (reading_point g)) e in
-        rw (misfit_counted a b c g e) (gap_small g.height (face_height a b c (reading_point g)) (leb-true g.height 32767 p.0) (height_low a b c (reading_point g) p.1))
+        rw (misfit_counted a b c g e) (square_gap_bounded g.height (face_height a b c (reading_point g)) (leb-true g.height 32767 p.0) (height_low a b c (reading_point g) p.1))
     by false e = omega (arith, misfit_uncounted a b c g e)
 
 -- ---- sums over the readings

@@ -17,7 +17,7 @@ above_zero (pos (suc i)) k t ne = omega (arith, ints)
 above_zero (negsuc i) k t ne = absurd (both_ways false refl t)
 
 -- a product of numbers above 0
-product_above : (a b : ℤ) → pos 0 <ℤ a → pos 0 <ℤ b → pos 0 <ℤ (a *ℤ b)
+pub product_above : (a b : ℤ) → pos 0 <ℤ a → pos 0 <ℤ b → pos 0 <ℤ (a *ℤ b)
 product_above (pos zero) b h k = absurd h.lt
 product_above (negsuc a) b h k = absurd h.lt
 product_above (pos (suc a)) (pos zero) h k = absurd k.lt

@@ -7,7 +7,7 @@ use Rattle.mesh.specs.declared.Point.{Point}
 use Rattle.mesh.specs.Geometry.{orientation, place}
 use Rattle.mesh.specs.Meshes.{Mesh, next, previous, no_twin, used, half, vertex, origin_point, twin_of}
 use Rattle.mesh.specs.Sound.{Sound}
-use Rattle.mesh.proofs.Orientations.{coordinates, o}
+use Rattle.mesh.proofs.Orientations.{coordinates, o, flat}
 use Rattle.mesh.proofs.Rings.{next_previous, previous_next, next_thrice, next_used, previous_used}
 use Rattle.editing.proofs.Relabelling.{Different, Off}
 use Rattle.editing.proofs.Turns.{Turns, turns}
@@ -31,10 +31,6 @@ pub next_not_previous : (s : ℕ) → next s ≢ previous s
 next_not_previous s e = previous_apart s (sym (next_next s) ∙ ap next e ∙ next_previous s)
 
 -- ---- orientations
-
-flat : (a c : Point) → orientation a a c ≡ pos 0
-unfolding orientation
-flat a c = ring (coordinates (a ∷ c ∷ [])) (o 0 0 1) (con (pos 0)) tt
 
 reversed : (a b c : Point) → orientation b a c ≡ pos 0 -ℤ orientation a b c
 unfolding orientation

@@ -9,6 +9,7 @@ use Rattle.mesh.specs.declared.Point.{Point}
 use Rattle.mesh.specs.Geometry.{orientation}
 use Rattle.mesh.specs.Meshes.{Mesh, vertex}
 use Rattle.mesh.specs.Sound.{Sound, on_border}
+use Rattle.mesh.proofs.Borders.{both_eq}
 
 -- ---- signs
 
@@ -83,9 +84,6 @@ in_rectangle m σ (suc (suc (suc zero))) l = (omega (arith, σ.northwest.0), ome
 in_rectangle m σ (suc (suc (suc (suc v)))) l =
     let i = σ.inside (suc (suc (suc (suc v)))) (omega arith) l in (omega (arith, i.1), omega (arith, i.3))
 
-both_at : (x y z : ℕ) → (eqb x z && eqb y z) ≡ true → (x ≡ z) × (y ≡ z)
-both_at x y z e = let p = and_parts (eqb x z) (eqb y z) e in (eqb-true x z p.0, eqb-true y z p.1)
-
 abbrev In : Header → Point → Type 0
 In h p = (p.east ≤ h.width) × (p.north ≤ h.depth)
 
@@ -105,24 +103,24 @@ inner_diagonal h u q r p iq ip one two e =
   where
     on_west : (eqb u.east 0 && eqb r.east 0) ≡ true → ⊥
     on_west t =
-        let b = both_at u.east r.east 0 t in
+        let b = both_eq u.east r.east 0 t in
         let k = east_of u q r (b.0 ∙ sym b.1) (omega arith) one in
         omega (arith, east_of r p u (b.1 ∙ sym b.0) (omega arith) two)
 
     on_east : (eqb u.east h.width && eqb r.east h.width) ≡ true → ⊥
     on_east t =
-        let b = both_at u.east r.east h.width t in
+        let b = both_eq u.east r.east h.width t in
         let k = west_of u q r (b.0 ∙ sym b.1) (omega arith) one in
         omega (arith, west_of r p u (b.1 ∙ sym b.0) (omega arith) two)
 
     on_south : (eqb u.north 0 && eqb r.north 0) ≡ true → ⊥
     on_south t =
-        let b = both_at u.north r.north 0 t in
+        let b = both_eq u.north r.north 0 t in
         let k = north_of u q r (b.0 ∙ sym b.1) (omega arith) one in
         omega (arith, north_of r p u (b.1 ∙ sym b.0) (omega arith) two)
 
     on_north : (eqb u.north h.depth && eqb r.north h.depth) ≡ true → ⊥
     on_north t =
-        let b = both_at u.north r.north h.depth t in
+        let b = both_eq u.north r.north h.depth t in
         let k = south_of u q r (b.0 ∙ sym b.1) (omega arith) one in
         omega (arith, south_of r p u (b.1 ∙ sym b.0) (omega arith) two)

@@ -8,7 +8,7 @@ use Rattle.mesh.specs.declared.Point.{Point}
 use Rattle.mesh.specs.Geometry.{orientation, place}
 use Rattle.mesh.specs.Meshes.{Mesh, next, previous, used, half, vertex, origin_point, twin_of, no_twin}
 use Rattle.mesh.specs.Sound.{Sound}
-use Rattle.mesh.proofs.Orientations.{coordinates, o, orientation_rotates}
+use Rattle.mesh.proofs.Orientations.{flat, orientation_rotates}
 use Rattle.mesh.proofs.Rings.{next_first, next_second, next_third, next_thrice, next_previous, previous_next, next_used}
 
 -- s is a half-edge of face f
@@ -93,11 +93,6 @@ module _ (m : Mesh) where
     -- the half-edges in use are few
     pub used_small : used m ≤ 6126
     used_small = omega (arith, σ.count.1)
-
-    -- a point twice makes no triangle
-    flat : (a c : Point) → orientation a a c ≡ pos 0
-    unfolding orientation
-    flat a c = ring (coordinates (a ∷ c ∷ [])) (o 0 0 1) (con (pos 0)) tt
 
     -- a half-edge ends at another vertex than it starts from
     pub ends_differ : (s : ℕ) → s < used m → (half m s).origin ≢ (half m (next s)).origin

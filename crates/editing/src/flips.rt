@@ -39,7 +39,7 @@ pub fn flip(half_edges: &mut [HalfEdge], s: usize, n: usize)
     requires few { n ≤ 65535 }
     requires within { s < n }
     requires twin { (half_at half_edges.old s).twin < n }
-    requires twins { (k : ℕ) → k < n → ((half_at half_edges.old k).twin ≢ 65535) → (half_at half_edges.old k).twin < n }
+    requires twins { (k : ℕ) → k < n → (half_at half_edges.old k).twin ≢ 65535 → (half_at half_edges.old k).twin < n }
     ensures { half_edges.new ≡ turned half_edges.old s (half_at half_edges.old s).twin }
 {
     let t = half_edges[s].twin as usize;

@@ -15,7 +15,8 @@ use Rattle.editing.proofs.FlipSound.{M, flipped_is, label_below, label_home, s_s
 use Rattle.editing.proofs.FlipLaws.{flip_keeps_sound}
 use Rattle.cost.specs.Costs.{Parts, LawfulCost, end, edge_cost, face_sum, edge_sum, total}
 use Rattle.job.specs.Quads.{face_at, side_at, quad_cost, FlipIsLocal}
-use Rattle.job.proofs.Sides.{across, across_yes, across_no, twinned, lone, has_one}
+use Rattle.tiling.proofs.Across.{across, across_yes, across_no, twinned}
+use Rattle.job.proofs.Sides.{lone, has_one}
 use Rattle.job.proofs.Quads.{six, six_few, six_outside, face_thrice, faces_thrice, five, edges_part}
 
 module _ (K : Parts) (lawful : LawfulCost K) (m : Mesh) (σ : Sound m) (s t : ℕ) (ε : Edge m s t) (σ' : Sound (M m σ s t ε)) where
@@ -77,11 +78,11 @@ module _ (K : Parts) (lawful : LawfulCost K) (m : Mesh) (σ : Sound m) (s t : �
     side_alone : has_twin m x ≡ false → (side_at K m' x ≡ side_at K m x) × (across m' x ≡ across m x)
     side_alone e =
         let e' : has_twin m' x ≡ false = not_from_true _ (eq-eqb _ _ (twin_moves ∙ ap ρ (lone m x e) ∙ none_moves)) in
-        (cond-false (has_twin m' x) _ 0 e' ∙ sym (cond-false (has_twin m x) _ 0 e), across_no K lawful m' σ' x e' ∙ sym (across_no K lawful m σ x e))
+        (cond-false (has_twin m' x) _ 0 e' ∙ sym (cond-false (has_twin m x) _ 0 e), across_no m' σ' x e' ∙ sym (across_no m σ x e))
 
     module _ (e : has_twin m x ≡ true) where
       twin_below : twin_of m x < used m
-      twin_below = σ.twins x l (twinned m x e)
+      twin_below = σ.twins x l (twinned m σ x e)
 
       e' : has_twin m' x ≡ true
       e' = has_one m' x (λ z. not_none m σ _ (label_below m σ s t ε (twin_of m x) twin_below) (sym twin_moves ∙ z))
@@ -95,12 +96,12 @@ module _ (K : Parts) (lawful : LawfulCost K) (m : Mesh) (σ : Sound m) (s t : �
           let p = end_still (previous x) (previous_used m x l) (outside_previous s t x o) in
           let q = ap (λ y. end m' (previous y)) same ∙ end_still (previous (twin_of m x)) (previous_used m (twin_of m x) twin_below) (outside_previous s t (twin_of m x) far) in
           let cost : edge_cost K m' x ≡ edge_cost K m x = λ i. K.edge (end_still x l o i) (n i) (p i) (q i) in
-          (cond-true (has_twin m' x) _ 0 e' ∙ cost ∙ sym (cond-true (has_twin m x) _ 0 e), across_yes K lawful m' σ' x e' ∙ same ∙ sym (across_yes K lawful m σ x e))
+          (cond-true (has_twin m' x) _ 0 e' ∙ cost ∙ sym (cond-true (has_twin m x) _ 0 e), across_yes m' σ' x e' ∙ same ∙ sym (across_yes m σ x e))
 
       -- one whose twin lies inside is not counted here
       leads_in : inner (twin_of m x) ≡ true → (inner (across m' x) ≡ true) × (inner (across m x) ≡ true)
       leads_in i =
-          (ap inner (across_yes K lawful m' σ' x e' ∙ twin_moves) ∙ inner_moves (twin_of m x) i, ap inner (across_yes K lawful m σ x e) ∙ i)
+          (ap inner (across_yes m' σ' x e' ∙ twin_moves) ∙ inner_moves (twin_of m x) i, ap inner (across_yes m σ x e) ∙ i)
 
   abbrev far : Mesh → ℕ → ℕ
   far n x = cond (inner x) 0 (cond (inner (across n x)) 0 (side_at K n x))

@@ -10,7 +10,8 @@ use Rattle.mesh.proofs.Rings.{next_used, previous_used, next_previous, previous_
 use Rattle.editing.proofs.Quadrilaterals.{Edge, Outside, clear, next_next}
 use Rattle.cost.specs.Costs.{Parts, LawfulCost, end, face_cost, face_sum, edge_sum}
 use Rattle.job.specs.Quads.{face_at, side_at}
-use Rattle.job.proofs.Sides.{across, has_one, across_yes, across_twice, sum_across, side_across, sides_twice}
+use Rattle.tiling.proofs.Across.{across, across_yes, across_twice}
+use Rattle.job.proofs.Sides.{has_one, sum_across, side_across, sides_twice}
 
 -- the six half-edges of the faces of s and t
 abbrev pub six : ℕ → ℕ → List ℕ
@@ -127,7 +128,7 @@ module _ (K : Parts) (lawful : LawfulCost K) (m : Mesh) (σ : Sound m) (s t : �
   entering_leaving =
       sym (sum_across K lawful m σ entering)
       ∙ sum_same (λ x. entering (across m x)) (masked inner leaving) N
-      (λ x l. (λ i. cond (inner (across m x)) 0 (cond (inner (across_twice K lawful m σ x l i)) (side_across K lawful m σ x l i) 0))
+      (λ x l. (λ i. cond (inner (across m x)) 0 (cond (inner (across_twice m σ x l i)) (side_across K lawful m σ x l i) 0))
       ∙ turn (inner (across m x)) (inner x) (T x))
       ∙ sum_few leaving N (six s t) six_few
     where
@@ -140,7 +141,7 @@ module _ (K : Parts) (lawful : LawfulCost K) (m : Mesh) (σ : Sound m) (s t : �
   -- an outer half-edge leads out, or has no twin and costs nothing
   leads_out : (y : ℕ) → Outside s t (twin_of m y) → leaving y ≡ T y
   leads_out y o = ⊎_elim
-      (λ e. cond-false (inner (across m y)) 0 (T y) (ap inner (across_yes K lawful m σ y e) ∙ outside_six s t (twin_of m y) o))
+      (λ e. cond-false (inner (across m y)) 0 (T y) (ap inner (across_yes m σ y e) ∙ outside_six s t (twin_of m y) o))
       (λ e. let none : T y ≡ 0 = cond-false (has_twin m y) _ 0 e in same (inner (across m y)) (T y) none)
       (cases_Bool (has_twin m y))
     where
@@ -150,7 +151,7 @@ module _ (K : Parts) (lawful : LawfulCost K) (m : Mesh) (σ : Sound m) (s t : �
 
   -- the edge itself does not
   stays_in : (x y : ℕ) → twin_of m x ≡ y → has_twin m x ≡ true → inner y ≡ true → leaving x ≡ 0
-  stays_in x y e h i = cond-true (inner (across m x)) 0 (T x) (ap inner (across_yes K lawful m σ x h ∙ e) ∙ i)
+  stays_in x y e h i = cond-true (inner (across m x)) 0 (T x) (ap inner (across_yes m σ x h ∙ e) ∙ i)
 
   -- the five edges of the quadrilateral
   abbrev pub five : ℕ
@@ -164,7 +165,7 @@ module _ (K : Parts) (lawful : LawfulCost K) (m : Mesh) (σ : Sound m) (s t : �
       let ht : has_twin m t ≡ true = has_one m t (λ z. ne s ε.here (sym ε.back ∙ z)) in
       let in_t : inner t ≡ true = or_right (eqb s t) _ (or_right (eqb (next s) t) _ (or_right (eqb (previous s) t) _ (or_left (eqb t t) (member (next t ∷ previous t ∷ []) t) (eq-eqb t t refl)))) in
       let in_s : inner s ≡ true = or_left (eqb s s) (member (next s ∷ previous s ∷ t ∷ next t ∷ previous t ∷ []) s) (eq-eqb s s refl) in
-      let other : T t ≡ T s = sym (ap T (across_yes K lawful m σ s hs ∙ ε.is)) ∙ side_across K lawful m σ s ε.here in
+      let other : T t ≡ T s = sym (ap T (across_yes m σ s hs ∙ ε.is)) ∙ side_across K lawful m σ s ε.here in
       let outer =
       sum_same (λ x. cond (inner x) 0 (T x)) (λ x. entering x + beyond x) N (λ x l. either (inner x) (inner (across m x)) (T x))
       ∙ sum_sum entering beyond N in

@@ -8,17 +8,11 @@ use Rattle.mesh.specs.Meshes.{Mesh, next, previous, no_twin, used, half, vertex,
 use Rattle.mesh.specs.Sound.{Sound}
 use Rattle.mesh.specs.Geometry.{checked}
 use Rattle.editing.proofs.Quadrilaterals.{Edge, edge_of, not_none, clear}
+use Rattle.tiling.proofs.Across.{across, twinned, twin_back, across_yes, across_no, across_below, across_twice}
 use Rattle.cost.specs.Costs.{Parts, LawfulCost, end, edge_cost, edge_sum}
 use Rattle.job.specs.Quads.{side_at}
 
--- across a half-edge: its twin, or itself where it has none
-abbrev pub across : Mesh → ℕ → ℕ
-across m x = cond (has_twin m x) (twin_of m x) x
-
--- a half-edge has a twin, or none
-pub twinned : (m : Mesh) (x : ℕ) → has_twin m x ≡ true → twin_of m x ≢ no_twin
-twinned m x e = eqb-false (twin_of m x) no_twin (not-true _ e)
-
+-- a half-edge has no twin, or one
 pub lone : (m : Mesh) (x : ℕ) → has_twin m x ≡ false → twin_of m x ≡ no_twin
 lone m x e = eqb-true (twin_of m x) no_twin (not-false _ e)
 
@@ -34,7 +28,7 @@ module _ (K : Parts) (lawful : LawfulCost K) (m : Mesh) (σ : Sound m) where
 
   -- the edge of x as its twin sees it
   edge_at : (x : ℕ) → x < N → has_twin m x ≡ true → Edge m x (twin_of m x)
-  edge_at x l e = edge_of m σ x (twin_of m x) l (σ.twins x l (twinned m x e)) refl
+  edge_at x l e = edge_of m σ x (twin_of m x) l (σ.twins x l (twinned m σ x e)) refl
 
   pub same_edge : (x : ℕ) → x < N → has_twin m x ≡ true → E (twin_of m x) ≡ E x
   same_edge x l e =
@@ -44,40 +38,18 @@ module _ (K : Parts) (lawful : LawfulCost K) (m : Mesh) (σ : Sound m) where
       (λ i. at (ε.head i) (ε.tail i) (half m (previous t)).origin (half m (previous (ε.back i))).origin)
       ∙ lawful.lawful_edge.edge_reverses (end m x) (end m (next x)) (end m (previous x)) (end m (previous t))
 
-  pub across_yes : (x : ℕ) → has_twin m x ≡ true → across m x ≡ twin_of m x
-  across_yes x e = cond-true (has_twin m x) (twin_of m x) x e
-
-  pub across_no : (x : ℕ) → has_twin m x ≡ false → across m x ≡ x
-  across_no x e = cond-false (has_twin m x) (twin_of m x) x e
-
-  -- the twin of x has one
-  pub twin_has : (x : ℕ) → x < N → has_twin m x ≡ true → has_twin m (twin_of m x) ≡ true
-  twin_has x l e = has_one m (twin_of m x) (λ z. not_none m σ x l (sym (edge_at x l e).back ∙ z))
-
-  pub across_below : (x : ℕ) → x < N → across m x < N
-  across_below x l = ⊎_elim
-      (λ e. subst (λ (y : ℕ). y < N) (sym (across_yes x e)) (σ.twins x l (twinned m x e)))
-      (λ e. subst (λ (y : ℕ). y < N) (sym (across_no x e)) l)
-      (cases_Bool (has_twin m x))
-
-  pub across_twice : (x : ℕ) → x < N → across m (across m x) ≡ x
-  across_twice x l = ⊎_elim
-      (λ e. ap (across m) (across_yes x e) ∙ across_yes (twin_of m x) (twin_has x l e) ∙ (edge_at x l e).back)
-      (λ e. ap (across m) (across_no x e) ∙ across_no x e)
-      (cases_Bool (has_twin m x))
-
-  -- so a sum may be taken across
+  -- a sum may be taken across
   pub sum_across : (f : ℕ → ℕ) → sum (λ x. f (across m x)) N ≡ sum f N
   sum_across f = sum_permuted f N (across m) (across m)
-      (record { below = across_below; below_back = across_below; there = across_twice; back = across_twice })
+      (record { below = across_below m σ; below_back = across_below m σ; there = across_twice m σ; back = across_twice m σ })
 
   -- from either half-edge the edge costs the same
   pub side_across : (x : ℕ) → x < N → side_at K m (across m x) ≡ side_at K m x
   side_across x l = ⊎_elim
-      (λ e. ap (side_at K m) (across_yes x e)
-      ∙ cond-true (has_twin m (twin_of m x)) (E (twin_of m x)) 0 (twin_has x l e)
+      (λ e. ap (side_at K m) (across_yes m σ x e)
+      ∙ cond-true (has_twin m (twin_of m x)) (E (twin_of m x)) 0 (twin_back m σ x l e).1
       ∙ same_edge x l e ∙ sym (cond-true (has_twin m x) (E x) 0 e))
-      (λ e. ap (side_at K m) (across_no x e))
+      (λ e. ap (side_at K m) (across_no m σ x e))
       (cases_Bool (has_twin m x))
 
   -- each edge at its lower half-edge
@@ -91,7 +63,7 @@ module _ (K : Parts) (lawful : LawfulCost K) (m : Mesh) (σ : Sound m) where
       by_none : has_twin m x ≡ false → side_at K m x ≡ low x + low (across m x)
       by_none e =
           let z : low x ≡ 0 = ap (λ b. cond (b && ltb x (twin_of m x)) (E x) 0) e in
-          let y : low (across m x) ≡ 0 = ap low (across_no x e) ∙ z in
+          let y : low (across m x) ≡ 0 = ap low (across_no m σ x e) ∙ z in
           omega (arith, cond-false (has_twin m x) (E x) 0 e)
 
       by_twin : has_twin m x ≡ true → side_at K m x ≡ low x + low (across m x)
@@ -100,8 +72,8 @@ module _ (K : Parts) (lawful : LawfulCost K) (m : Mesh) (σ : Sound m) where
           let ε = edge_at x l e in
           let here : low x ≡ cond (ltb x t) (E x) 0 = ap (λ b. cond (b && ltb x t) (E x) 0) e in
           let there : low (across m x) ≡ cond (ltb t x) (E x) 0 =
-          ap low (across_yes x e)
-          ∙ (λ i. cond (twin_has x l e i && ltb t (ε.back i)) (same_edge x l e i) 0) in
+          ap low (across_yes m σ x e)
+          ∙ (λ i. cond ((twin_back m σ x l e).1 i && ltb t (ε.back i)) (same_edge x l e i) 0) in
           let all = cond-true (has_twin m x) (E x) 0 e in
           ⊎_elim
           (λ h. omega (arith, here, there, all, cond-true (ltb x t) (E x) 0 (lt-ltb x t h), cond-false (ltb t x) (E x) 0 (le-ltb t x (omega arith))))

@@ -13,7 +13,8 @@ use Rattle.editing.proofs.FlipSound.{Flippable, flippable_known}
 use Rattle.editing.proofs.Exchange.{exchange, ex_home, ex_next, ex_previous, ex_below, ex_none, twice, twice_is, sound_twice, at_twice}
 use Rattle.cost.specs.Costs.{Parts, LawfulCost, end, edge_cost, total}
 use Rattle.job.specs.Quads.{face_at, side_at, TwoFlipsCost}
-use Rattle.job.proofs.Sides.{twinned, lone, has_one, sides_twice}
+use Rattle.tiling.proofs.Across.{twinned}
+use Rattle.job.proofs.Sides.{lone, has_one, sides_twice}
 use Rattle.job.proofs.Quads.{faces_thrice}
 
 module _ (K : Parts) (lawful : LawfulCost K) (m : Mesh) (σ : Sound m) (s t : ℕ) (φ : Flippable m s t) where
@@ -56,7 +57,7 @@ module _ (K : Parts) (lawful : LawfulCost K) (m : Mesh) (σ : Sound m) (s t : �
       by_twin : has_twin m x ≡ true → side_at K m₂ (π x) ≡ side_at K m x
       by_twin e =
           let u = twin_of m x in
-          let below : u < used m = σ.twins x l (twinned m x e) in
+          let below : u < used m = σ.twins x l (twinned m σ x e) in
           let e₂ : has_twin m₂ (π x) ≡ true = has_one m₂ (π x) (λ z. not_none m σ (π u) (ex_below m σ s t φ.edge u below) (sym (twin_there x l) ∙ z)) in
           let across = ap (λ y. end m₂ (previous y)) (twin_there x l) ∙ end_previous u below in
           let cost : edge_cost K m₂ (π x) ≡ edge_cost K m x = λ i. K.edge (end_there x l i) (end_next x l i) (end_previous x l i) (across i) in

@@ -67,7 +67,12 @@ off_parallel a b c w e off z =
     (λ v. off (omega (arith, ints))) in
     both_zero (pos b.east -ℤ pos a.east) (pos c.north -ℤ pos a.north) (pos b.north -ℤ pos a.north) (pos c.east -ℤ pos a.east) x u
 
-both_eq : (x y z : ℕ) → (eqb x z && eqb y z) ≡ true → (x ≡ z) × (y ≡ z)
+-- one of four tests passed
+pub one_of_four : (p q r s : Bool) → (p || q || r || s) ≡ true → ((((p ≡ true) ⊎ (q ≡ true)) ⊎ (r ≡ true)) ⊎ (s ≡ true))
+one_of_four p q r s t = ⊎_elim (λ u. inl (⊎_elim (λ v. inl (or_cases p q v)) inr (or_cases (p || q) r u))) inr (or_cases (p || q || r) s t)
+
+-- two numbers that both equal a third
+pub both_eq : (x y z : ℕ) → (eqb x z && eqb y z) ≡ true → (x ≡ z) × (y ≡ z)
 both_eq x y z e = let p = and_parts (eqb x z) (eqb y z) e in (eqb-true x z p.0, eqb-true y z p.1)
 
 -- a side along a border, with a point strictly inside on its line, bounds no face
@@ -92,10 +97,7 @@ border_flat h a b c w o i z =
     (λ t. on_parallel 0 t (λ q. omega arith))
     )
     (λ t. on_parallel h.depth t (λ q. omega arith))
-    (three west east south north o)
-  where
-    three : (p q r s : Bool) → (p || q || r || s) ≡ true → ((((p ≡ true) ⊎ (q ≡ true)) ⊎ (r ≡ true)) ⊎ (s ≡ true))
-    three p q r s t = ⊎_elim (λ u. inl (⊎_elim (λ v. inl (or_cases p q v)) inr (or_cases (p || q) r u))) inr (or_cases (p || q || r) s t)
+    (one_of_four west east south north o)
 
 cut_cases :
     (b₀ b₁ b₂ : Bool) (x y z s : ℕ) → cond b₀ (Some x) (cond b₁ (Some y) (cond b₂ (Some z) None)) ≡ Some s →

@@ -1,6 +1,6 @@
 -- Laws of the orientation: it may be read from any corner, and changes its sign with the direction.
 use Rattle.std.proofs.Common.{◌≡◌, ℕ, ◌+◌, ◌*◌, List, [], ◌∷◌, ℤ, pos}
-use Rattle.arith.proofs.Ring.{Ex, var, ◌⊖◌, ◌⊗◌, ring}
+use Rattle.arith.proofs.Ring.{Ex, var, con, ◌⊖◌, ◌⊗◌, ring}
 use Rattle.mesh.specs.declared.Point.{Point}
 use Rattle.mesh.specs.Geometry.{orientation}
 
@@ -21,3 +21,8 @@ o a b c = (e b ⊖ e a) ⊗ (n c ⊖ n a) ⊖ (n b ⊖ n a) ⊗ (e c ⊖ e a)
 pub orientation_rotates : (a b c : Point) → orientation b c a ≡ orientation a b c
 unfolding orientation
 orientation_rotates a b c = ring (coordinates (a ∷ b ∷ c ∷ [])) (o 1 2 0) (o 0 1 2) tt
+
+-- a point twice makes no triangle
+pub flat : (a c : Point) → orientation a a c ≡ pos 0
+unfolding orientation
+flat a c = ring (coordinates (a ∷ c ∷ [])) (o 0 0 1) (con (pos 0)) tt

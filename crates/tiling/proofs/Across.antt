@@ -17,7 +17,7 @@ abbrev pub across : Mesh → ℕ → ℕ
 across m x = cond (has_twin m x) (twin_of m x) x
 
 module _ (m : Mesh) (σ : Sound m) where
-  twinned : (x : ℕ) → has_twin m x ≡ true → twin_of m x ≢ no_twin
+  pub twinned : (x : ℕ) → has_twin m x ≡ true → twin_of m x ≢ no_twin
   twinned x e = eqb-false (twin_of m x) no_twin (not-true _ e)
 
   -- no half-edge in use has the number that stands for none
@@ -31,19 +31,19 @@ module _ (m : Mesh) (σ : Sound m) where
       let back = σ.paired x l ne in
       (σ.twins x l ne, not_from_false _ (ne_eqb _ _ (λ z. not_none x l (sym back ∙ z))), back)
 
-  across_yes : (x : ℕ) → has_twin m x ≡ true → across m x ≡ twin_of m x
+  pub across_yes : (x : ℕ) → has_twin m x ≡ true → across m x ≡ twin_of m x
   across_yes x e = cond-true (has_twin m x) (twin_of m x) x e
 
-  across_no : (x : ℕ) → has_twin m x ≡ false → across m x ≡ x
+  pub across_no : (x : ℕ) → has_twin m x ≡ false → across m x ≡ x
   across_no x e = cond-false (has_twin m x) (twin_of m x) x e
 
-  across_below : (x : ℕ) → x < used m → across m x < used m
+  pub across_below : (x : ℕ) → x < used m → across m x < used m
   across_below x l = ⊎_elim
       (λ e. subst (λ (y : ℕ). y < used m) (sym (across_yes x e)) (twin_back x l e).0)
       (λ e. subst (λ (y : ℕ). y < used m) (sym (across_no x e)) l)
       (cases_Bool (has_twin m x))
 
-  across_twice : (x : ℕ) → x < used m → across m (across m x) ≡ x
+  pub across_twice : (x : ℕ) → x < used m → across m (across m x) ≡ x
   across_twice x l = ⊎_elim
       (λ e. let b = twin_back x l e in ap (across m) (across_yes x e) ∙ across_yes (twin_of m x) b.1 ∙ b.2)
       (λ e. ap (across m) (across_no x e) ∙ across_no x e)

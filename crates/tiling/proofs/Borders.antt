@@ -5,6 +5,7 @@ use Rattle.mesh.specs.Meshes.{Mesh, next, used, half, vertex, has_twin}
 use Rattle.mesh.specs.Sound.{Sound, along_border}
 use Rattle.mesh.proofs.Decide.{T_true}
 use Rattle.mesh.proofs.Rings.{next_used}
+use Rattle.mesh.proofs.Borders.{one_of_four, both_eq}
 use Rattle.editing.proofs.Turns.{turns}
 use Rattle.tiling.proofs.Runs.{runs_south, runs_north, runs_east, runs_west}
 
@@ -148,9 +149,6 @@ module _ (m : Mesh) (σ : Sound m) where
         (λ a. ⊎_elim (λ b. absurd (omega (arith, r, a.1, b.1))) (λ b. absurd (omega (arith, r, a.1, b.1))) (on_north (to x) to_used q))
         (on_north (from x) from_used p)
 
-    both : (p q n : ℕ) → (eqb p n && eqb q n) ≡ true → (p ≡ n) × (q ≡ n)
-    both p q n e = let k = and_parts (eqb p n) (eqb q n) e in (eqb-true p n k.0, eqb-true q n k.1)
-
     -- a half-edge without a twin runs from a corner to the next
     pub alone_runs : has_twin m x ≡ false → (v : ℕ) × (v < 4) × (from x ≡ v) × (to x ≡ corner_after v)
     alone_runs e =
@@ -158,11 +156,8 @@ module _ (m : Mesh) (σ : Sound m) where
         ⊎_elim
         (⊎_elim
         (⊎_elim
-        (λ t. let k = both _ _ 0 t in let r = west_runs k.0 k.1 in (3, omega arith, r.0, r.1))
-        (λ t. let k = both _ _ W t in let r = east_runs k.0 k.1 in (1, omega arith, r.0, r.1)))
-        (λ t. let k = both _ _ 0 t in let r = south_runs k.0 k.1 in (0, omega arith, r.0, r.1)))
-        (λ t. let k = both _ _ H t in let r = north_runs k.0 k.1 in (2, omega arith, r.0, r.1))
-        (four _ _ _ _ b)
-      where
-        four : (p q r s : Bool) → (p || q || r || s) ≡ true → ((((p ≡ true) ⊎ (q ≡ true)) ⊎ (r ≡ true)) ⊎ (s ≡ true))
-        four p q r s t = ⊎_elim (λ u. inl (⊎_elim (λ v. inl (or_cases p q v)) inr (or_cases (p || q) r u))) inr (or_cases (p || q || r) s t)
+        (λ t. let k = both_eq _ _ 0 t in let r = west_runs k.0 k.1 in (3, omega arith, r.0, r.1))
+        (λ t. let k = both_eq _ _ W t in let r = east_runs k.0 k.1 in (1, omega arith, r.0, r.1)))
+        (λ t. let k = both_eq _ _ 0 t in let r = south_runs k.0 k.1 in (0, omega arith, r.0, r.1)))
+        (λ t. let k = both_eq _ _ H t in let r = north_runs k.0 k.1 in (2, omega arith, r.0, r.1))
+        (one_of_four _ _ _ _ b)

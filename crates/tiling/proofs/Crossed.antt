@@ -6,8 +6,9 @@ use Rattle.std.proofs.lemmas.Bool.{cases_lt, le-leb, lt-leb, and_parts, and_from
 use Rattle.mesh.specs.declared.Point.{Point}
 use Rattle.mesh.specs.Geometry.{orientation, positive, admits, owns}
 use Rattle.mesh.proofs.Orientations.{orientation_rotates}
+use Rattle.editing.proofs.Corners.{product_above}
 use Rattle.tiling.specs.Crossings.{is_up, descends, ascends, bit}
-use Rattle.tiling.proofs.Signs.{orders, cases_ltZ, above_above, above_below, below_below, from_from, from_upto, upto_from, upto_upto}
+use Rattle.tiling.proofs.Signs.{orders, cases_ltZ, above_below, below_below, from_from, from_upto, upto_from, upto_upto}
 use Rattle.tiling.proofs.Sides.{rise, run, plane, orientation_back, orientation_sum, balance, orientation_level, admitted, admitted_from, admitted_north, admits_left, admits_south, admits_west}
 
 -- ---- a side read backwards
@@ -154,12 +155,12 @@ module _ (a b c w : Point) (turns : pos 0 <ℤ orientation a b c) where
       let g = from_from (orientation b c w) (rise w a) (admitted_from b c w t) x in
       let h = from_from (orientation c a w) (rise w b) (admitted_from c a w u) y in
       let k : c.north ≡ w.north = ⊎_elim
-      (λ l. let m = above_above (orientation a b w) (rise w c) A l in absurd (omega (arith, orders)))
+      (λ l. let m = product_above (orientation a b w) (rise w c) A l in absurd (omega (arith, orders)))
       (λ l. omega (arith, plane))
       (cases_ltZ (pos 0) (rise w c)) in
       ⊎_elim
       (λ C. not_level b c a w (turns_next a b c turns) (⊎_elim
-      (λ l. let m = above_above (orientation c a w) (rise w b) C l in absurd (omega (arith, orders)))
+      (λ l. let m = product_above (orientation c a w) (rise w b) C l in absurd (omega (arith, orders)))
       (λ l. omega (arith, plane))
       (cases_ltZ (pos 0) (rise w b))) k p t)
       (λ v. not_level c a b w (turns_previous a b c turns) k (let l = v.1 in omega arith) q u)
@@ -282,7 +283,7 @@ module _ (a b c w : Point) (turns : pos 0 <ℤ orientation a b c) where
           (λ k.
           let f = upto_upto (orientation a b w) (rise w c) k (omega (arith, orders)) in
           let m : b.north ≡ a.north = ⊎_elim
-          (λ v. let u = above_above (orientation c a w) (rise w b) C v in absurd (omega (arith, orders)))
+          (λ v. let u = product_above (orientation c a w) (rise w b) C v in absurd (omega (arith, orders)))
           (λ v. omega (arith, plane))
           (cases_ltZ (pos 0) (rise w b)) in
           admits_west a b w A m (above a b c turns m (omega arith)))

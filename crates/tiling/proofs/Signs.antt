@@ -4,6 +4,7 @@ use lib.IntN.{*ℤ_comm}
 use lib.Signed.{lt_z}
 use borrow.Author.Differences.{ints, same_in, same_out, Apart-out, sum_is_lem, neg_is, lt_out, le_out, below_in, at_most_in, lt-true, lt-false, le-true, le-false, true_is_lt, false_is_lt, true_is_le, false_is_le}
 use Rattle.arith.proofs.Ring.{var, con, ◌⊖◌, ◌⊗◌, ring}
+use Rattle.editing.proofs.Corners.{product_above}
 
 -- sums, differences and their order, with products as atoms, for `omega`
 pub ruleset orders = (same_out, same_in, Apart-out, sum_is_lem, neg_is, lt_out, le_out, below_in, at_most_in, lt-true, lt-false, le-true, le-false, true_is_lt, false_is_lt, true_is_le, false_is_le)
@@ -22,18 +23,10 @@ cases_ltZ a b = by (lt_z a b) refl
 opposite : (a b : ℤ) → a *ℤ (pos 0 -ℤ b) ≡ pos 0 -ℤ a *ℤ b
 opposite a b = ring (a ∷ b ∷ []) (var 0 ⊗ (con (pos 0) ⊖ var 1)) (con (pos 0) ⊖ var 0 ⊗ var 1) tt
 
--- both above 0
-pub above_above : (a b : ℤ) → pos 0 <ℤ a → pos 0 <ℤ b → pos 0 <ℤ (a *ℤ b)
-above_above (pos zero) b h k = absurd h.lt
-above_above (negsuc a) b h k = absurd h.lt
-above_above (pos (suc a)) (pos zero) h k = absurd k.lt
-above_above (pos (suc a)) (negsuc b) h k = absurd k.lt
-above_above (pos (suc a)) (pos (suc b)) h k = omega (arith, ints)
-
 -- the first above 0, the second below
 pub above_below : (a b : ℤ) → pos 0 <ℤ a → b <ℤ pos 0 → (a *ℤ b) <ℤ pos 0
 above_below a b h k =
-    let m = above_above a (pos 0 -ℤ b) h (omega (arith, orders)) in
+    let m = product_above a (pos 0 -ℤ b) h (omega (arith, orders)) in
     let e = opposite a b in
     omega (arith, orders)
 

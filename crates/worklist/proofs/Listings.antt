@@ -3,17 +3,13 @@ use Rattle.std.proofs.Common.{◌≡◌, ℕ, ◌<◌, Bool, true, false, not, �
 use Rattle.std.proofs.lemmas.List.{get_or-replicate, get_or-set_other, get_or-set_same, length-set, length-replicate}
 use Rattle.std.proofs.lemmas.Bool.{both_ways, and_parts, and_from, not-true, not_from_false, ne_eqb, lt-ltb, ltb-true, cases_eq}
 use Rattle.worklist.specs.Orders.{Order, Inserted, Put, among, different, below, unmarked}
-use Rattle.worklist.proofs.Tables.{pigeon}
+use Rattle.worklist.proofs.Tables.{Told, pigeon}
 use Rattle.worklist.specs.Insertions.{among_inserted_same, among_inserted_other, different_inserted, below_inserted}
 
 -- what `unmarked` tests
 pub unmarked_parts : (t : List Bool) (k : ℕ) → true ≡ unmarked t k → (k < length t) × (get_or t k false ≡ false)
 unmarked_parts t k new =
     let p = and_parts (ltb k (length t)) (not (get_or t k false)) (sym new) in (ltb-true k (length t) p.0, not-true _ p.1)
-
--- the table t says of each number below n whether it is listed
-abbrev pub Told : List Bool → List ℕ → ℕ → Type 0
-Told t xs n = (j : ℕ) → j < n → get_or t j false ≡ among xs j
 
 -- the table after one entry is written
 told_set : (t : List Bool) (ys : List ℕ) (k : ℕ) (b : Bool) (n : ℕ) → length t ≡ n → k < n → among ys k ≡ b

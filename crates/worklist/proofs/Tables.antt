@@ -2,8 +2,9 @@
 use Rattle.std.proofs.Common.{◌≡◌, ℕ, zero, suc, ◌<◌, ◌≤◌, Bool, true, false, not, ◌||◌, eqb, ltb, List, [], ◌∷◌, ◌++◌, length, get_or, set, replicate, sym, refl, ap, ◌∙◌, ⊎_elim, arith}
 use Rattle.std.specs.List.{remove}
 use Rattle.std.proofs.lemmas.List.{get_or-replicate, get_or-set_other, get_or-set_same}
-use Rattle.std.proofs.lemmas.Bool.{both_ways, and_parts, and_from, or_cases, or_parts, or_left, or_right, not-true, not_from_false, eqb-true, eqb-false, eq-eqb, ne_eqb, ltb-true, cases_eq}
+use Rattle.std.proofs.lemmas.Bool.{both_ways, and_parts, and_from, or_parts, or_left, or_right, not-true, not_from_false, eqb-false, eq-eqb, ne_eqb, cases_eq}
 use Rattle.worklist.specs.Orders.{among, different, below}
+use Rattle.worklist.specs.Insertions.{below_among}
 
 -- laws of `||`, for lists joined
 pub or_none : (a : Bool) → (a || false) ≡ a
@@ -47,16 +48,6 @@ below_push n [] k b l = and_from _ _ l refl
 below_push n (x ∷ xs) k b l =
     let p = and_parts (ltb x n) (below n xs) b in and_from _ _ p.0 (below_push n xs k p.1 l)
 
--- a listed number is below the bound
-pub below_among : (n : ℕ) (xs : List ℕ) (k : ℕ) → below n xs ≡ true → among xs k ≡ true → k < n
-below_among n [] k b m = absurd (both_ways false refl m)
-below_among n (x ∷ xs) k b m =
-    let p = and_parts (ltb x n) (below n xs) b in
-    ⊎_elim
-    (λ e. let same = eqb-true x k e in let l = ltb-true x n p.0 in omega arith)
-    (λ e. below_among n xs k p.1 e)
-    (or_cases (eqb x k) (among xs k) m)
-
 -- how many are marked in a table
 abbrev trues : List Bool → ℕ
 trues [] = 0
@@ -95,7 +86,7 @@ pigeon n xs d b =
     omega arith
 
 -- the table t says of each number below n whether it is listed
-abbrev Told : List Bool → List ℕ → ℕ → Type 0
+abbrev pub Told : List Bool → List ℕ → ℕ → Type 0
 Told t xs n = (j : ℕ) → j < n → get_or t j false ≡ among xs j
 
 -- the table after a put

@@ -16,7 +16,7 @@ add_lines-requires g c =
     let Q = g.L.Worklist.order in
     let la = c.args.job.now.lookahead in
     let x = c.in_ok-in_line.field-0 in
-    let p = place_ok c.lay-laid.result 2 x (c.in_ok-in_line.ensures ∙ ap (λ r. in_line r 2) c.in_field.ensures) in
+    let p = place_ok c.lay-laid.result _ x (c.in_ok-in_line.ensures ∙ ap (λ r. in_line r _) c.in_field.ensures) in
     let rule : Rule K Q la s (Lay c.in_ok-plan.plan) (Laid x) t =
     subst (λ (r : Result ℕ Refusal). Rule K Q la s (Lay c.in_ok-plan.plan) (answered Laid r) t) p c.lay-laid.ensures.rule in
     lay_count K Q la s t c.in_ok-plan.plan x rule
