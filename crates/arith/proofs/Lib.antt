@@ -4,3 +4,4 @@ pub mod Ranges
 pub mod Rising
 pub mod Sums
 pub mod Reindexing
+pub mod Chains

@@ -1,5 +1,5 @@
 -- One step of a loop over 0, 1, .., n - 1 that chooses numbers or sums over them.
-use Rattle.std.proofs.Common.{◌≡◌, ℕ, zero, suc, ◌+◌, ◌*◌, ◌≤◌, Bool, true, false, cond, List, [], ◌∷◌, ◌++◌, refl, ap, ◌∙◌, suc-mul, add-one, arith}
+use Rattle.std.proofs.Common.{◌≡◌, ℕ, zero, suc, ◌+◌, ◌*◌, ◌<◌, ◌≤◌, Bool, true, false, cond, List, [], ◌∷◌, ◌++◌, refl, ap, suc-mul, add-one, arith}
 use Rattle.arith.specs.Ranges.{select, sum, sum_over}
 
 -- the next number passes
@@ -10,27 +10,15 @@ select_yes test n e = rw add-one (ap (λ b. cond b (select test n ++ (n ∷ []))
 pub select_no : (test : ℕ → Bool) (n : ℕ) → test n ≡ false → select test (n + 1) ≡ select test n
 select_no test n e = rw add-one (ap (λ b. cond b (select test n ++ (n ∷ [])) (select test n)) e)
 
--- one more summand
-pub sum_more : (f : ℕ → ℕ) (n : ℕ) → sum f (n + 1) ≡ sum f n + f n
-sum_more f n = rw add-one refl
-
 -- one more summand at the end of a list
 pub sum_over_push : (f : ℕ → ℕ) (xs : List ℕ) (x : ℕ) → sum_over f (xs ++ (x ∷ [])) ≡ sum_over f xs + f x
 sum_over_push f [] x = omega arith
 sum_over_push f (y ∷ xs) x = let e = sum_over_push f xs x in omega arith
 
--- the sum over the chosen numbers, where the next one passes
-pub sum_over_yes : (f : ℕ → ℕ) (test : ℕ → Bool) (n : ℕ) → test n ≡ true → sum_over f (select test (n + 1)) ≡ sum_over f (select test n) + f n
-sum_over_yes f test n e = ap (sum_over f) (select_yes test n e) ∙ sum_over_push f (select test n) n
-
--- and where it does not
-pub sum_over_no : (f : ℕ → ℕ) (test : ℕ → Bool) (n : ℕ) → test n ≡ false → sum_over f (select test (n + 1)) ≡ sum_over f (select test n)
-sum_over_no f test n e = ap (sum_over f) (select_no test n e)
-
 -- n summands, none above b
-pub sum_bounded : (f : ℕ → ℕ) (b : ℕ) → ((k : ℕ) → f k ≤ b) → (n : ℕ) → sum f n ≤ n * b
-sum_bounded f b h zero = omega arith
-sum_bounded f b h (suc n) = omega (arith, sum_bounded f b h n, h n, suc-mul n b)
+pub sum_bounded : (f : ℕ → ℕ) (b n : ℕ) → ((k : ℕ) → k < n → f k ≤ b) → sum f n ≤ n * b
+sum_bounded f b zero h = omega arith
+sum_bounded f b (suc n) h = omega (arith, sum_bounded f b n (λ k l. h k (omega arith)), h n (omega arith), suc-mul n b)
 
 -- at most n summands, none above b
 pub sum_over_bounded : (f : ℕ → ℕ) (test : ℕ → Bool) (b : ℕ) → ((k : ℕ) → f k ≤ b) → (n : ℕ) → sum_over f (select test n) ≤ n * b
@@ -40,3 +28,20 @@ sum_over_bounded f test b h (suc n) = by (test n) (sum_over_bounded f test b h n
     by : (t : Bool) → sum_over f (select test n) ≤ n * b → sum_over f (cond t (select test n ++ (n ∷ [])) (select test n)) ≤ suc n * b
     by true r = omega (arith, sum_over_push f (select test n) n, h n, suc-mul n b)
     by false r = omega (arith, suc-mul n b)
+
+-- the sum over the chosen numbers, where any other counts 0
+pub sum_over_chosen : (f : ℕ → ℕ) (test : ℕ → Bool) (n : ℕ) → sum (λ k. cond (test k) (f k) 0) n ≡ sum_over f (select test n)
+sum_over_chosen f test zero = refl
+sum_over_chosen f test (suc n) = by (test n) (sum_over_chosen f test n)
+  where
+    by : (t : Bool) → sum (λ k. cond (test k) (f k) 0) n ≡ sum_over f (select test n) →
+        sum (λ k. cond (test k) (f k) 0) n + cond t (f n) 0 ≡ sum_over f (cond t (select test n ++ (n ∷ [])) (select test n))
+    by true e = omega (arith, sum_over_push f (select test n) n)
+    by false e = omega arith
+
+pub chosen_bounded : (f : ℕ → ℕ) (test : ℕ → Bool) (b : ℕ) → ((k : ℕ) → f k ≤ b) → (k : ℕ) → cond (test k) (f k) 0 ≤ b
+chosen_bounded f test b h k = by (test k)
+  where
+    by : (t : Bool) → cond t (f k) 0 ≤ b
+    by true = h k
+    by false = omega arith

@@ -7,7 +7,7 @@ ghost use Rattle.std.specs.Prelude.{◌≡◌, ◌^◌, ◌≤◌, ℤ, pos, ◌
 pub fn difference(from: u32, to: u32) -> i64
     ensures { result ≡ pos to -ℤ pos from }
 {
-    to as i64 - from as i64
+    i64::from(to) - i64::from(from)
 }
 
 // The determinant p q − r s, whose left column is short.

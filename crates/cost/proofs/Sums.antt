@@ -15,7 +15,7 @@ module _ (K : Parts) (lawful : LawfulCost K) (m : Mesh) where
 module _ (K : Parts) (lawful : LawfulCost K) (m : Mesh) (h : Indexed m) where
   pub face_sum_bounded : face_sum K m ≤ 2042 * 2 ^ 48
   unfolding face_sum
-  face_sum_bounded = omega (arith, h.roomy.few, sum_bounded (face_cost K m) (2 ^ 48) (face_cost_bounded K lawful m) (faces m))
+  face_sum_bounded = omega (arith, h.roomy.few, sum_bounded (face_cost K m) (2 ^ 48) (faces m) (λ f _. face_cost_bounded K lawful m f))
 
   pub edge_sum_bounded : edge_sum K m ≤ 6126 * 2 ^ 48
   unfolding edge_sum interior

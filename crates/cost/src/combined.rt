@@ -3,9 +3,9 @@ ghost use Rattle.cost.specs.Costs.{joint, scaled};
 ghost use Rattle.cost.specs.Lawful.{joint_lawful, scaled_lawful};
 
 use crate::Cost;
-use mesh::checked::CheckedVertex;
+use crate::corners::{Edge, Face};
 
-const CAP: u64 = 281474976710656;
+const CAP: u64 = 1 << 48;
 
 // The sum of two costs, each part at most 2^48.
 #[derive(Drop)]
@@ -19,19 +19,13 @@ impl<A: Cost, B: Cost> Cost for Joint<A, B> {
 
     ghost lawful = { λ j. joint_lawful (A.Cost.lawful j.first) (B.Cost.lawful j.second) };
 
-    fn face_part(&self, a: CheckedVertex, b: CheckedVertex, c: CheckedVertex) -> u64 {
-        let sum = self.first.face_part(a, b, c) + self.second.face_part(a, b, c);
+    fn face_part(&self, face: Face) -> u64 {
+        let sum = self.first.face_part(face) + self.second.face_part(face);
         sum.min(CAP)
     }
 
-    fn edge_part(
-        &self,
-        a: CheckedVertex,
-        b: CheckedVertex,
-        l: CheckedVertex,
-        r: CheckedVertex,
-    ) -> u64 {
-        let sum = self.first.edge_part(a, b, l, r) + self.second.edge_part(a, b, l, r);
+    fn edge_part(&self, edge: Edge) -> u64 {
+        let sum = self.first.edge_part(edge) + self.second.edge_part(edge);
         sum.min(CAP)
     }
 }
@@ -48,19 +42,13 @@ impl<C: Cost> Cost for Scaled<C> {
 
     ghost lawful = { λ s. scaled_lawful s.weight (C.Cost.lawful s.cost) };
 
-    fn face_part(&self, a: CheckedVertex, b: CheckedVertex, c: CheckedVertex) -> u64 {
-        let part = u64::from(self.weight.min(16)) * self.cost.face_part(a, b, c);
+    fn face_part(&self, face: Face) -> u64 {
+        let part = u64::from(self.weight.min(16)) * self.cost.face_part(face);
         part.min(CAP)
     }
 
-    fn edge_part(
-        &self,
-        a: CheckedVertex,
-        b: CheckedVertex,
-        l: CheckedVertex,
-        r: CheckedVertex,
-    ) -> u64 {
-        let part = u64::from(self.weight.min(16)) * self.cost.edge_part(a, b, l, r);
+    fn edge_part(&self, edge: Edge) -> u64 {
+        let part = u64::from(self.weight.min(16)) * self.cost.edge_part(edge);
         part.min(CAP)
     }
 }

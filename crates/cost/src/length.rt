@@ -4,7 +4,7 @@ ghost use Rattle.cost.specs.Costs.{square_gap, length as plan_length};
 ghost use Rattle.cost.specs.Lawful.{length_lawful};
 
 use crate::Cost;
-use mesh::checked::CheckedVertex;
+use crate::corners::{Edge, Face};
 
 #[derive(Drop, Clone, Copy)]
 pub struct Length {}
@@ -24,17 +24,12 @@ impl Cost for Length {
 
     ghost lawful = { λ _. length_lawful };
 
-    fn face_part(&self, a: CheckedVertex, b: CheckedVertex, c: CheckedVertex) -> u64 {
+    fn face_part(&self, face: Face) -> u64 {
         0
     }
 
-    fn edge_part(
-        &self,
-        a: CheckedVertex,
-        b: CheckedVertex,
-        l: CheckedVertex,
-        r: CheckedVertex,
-    ) -> u64 {
-        square_gap(a.east, b.east) + square_gap(a.north, b.north)
+    fn edge_part(&self, edge: Edge) -> u64 {
+        let Edge { from, to, .. } = edge;
+        square_gap(from.east, to.east) + square_gap(from.north, to.north)
     }
 }

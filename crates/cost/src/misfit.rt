@@ -1,19 +1,19 @@
-// How far the faces of a mesh lie from readings of the ground.
+// How far the faces of a mesh lie from readings of the ground. `as` stands where Rust has no `From`.
 ghost use Rattle.std.specs.Prelude.{◌≡◌, ◌≤◌, true, List};
 ghost use Rattle.cost.specs.declared.misfit.Reading.{Reading};
-ghost use Rattle.cost.specs.Costs.{weight as weighs, face_owns as owning, face_height as height_at, misfit_at as adds, misfit as misfit_of};
+ghost use Rattle.cost.specs.Costs.{weight as weighs, face_owns as owning, face_height as height_at, reading_point, misfit_at as adds, misfit as misfit_of};
 ghost use Rattle.cost.specs.Misfits.{misfit_lawful};
 
+use crate::Cost;
+use crate::corners::{Edge, Face, side};
 use crate::length::square_gap;
-use crate::{Cost, plan_point};
 use mesh::Point;
 use mesh::checked::CheckedVertex;
-use mesh::geometry::{orientation, owns};
 
 // A reading above this height does not count.
 const HIGHEST: u32 = 32767;
 
-// A measured height that is no vertex of the mesh. Its numbers may be any.
+// A measured height that is no vertex of the mesh, and no `Vertex` either, so that none is taken for the other. Its numbers may be any.
 #[derive(Clone, Copy, PartialEq, Eq, Debug)]
 pub struct Reading {
     pub east: u32,
@@ -39,6 +39,7 @@ impl<'a> Readings for &'a [Reading] {
 }
 
 // The squared differences between the readings and the faces that own them; only the first 4,096 readings count.
+// Generic in where the readings are kept: for a slice alone a cost could not own what it reads.
 #[derive(Drop)]
 pub struct Misfit<R: Readings> {
     pub readings: R,
@@ -48,42 +49,54 @@ pub struct Misfit<R: Readings> {
 fn weight(a: CheckedVertex, b: CheckedVertex, w: Point) -> u64
     ensures { result ≡ weighs a b w }
 {
-    orientation(plan_point(a), plan_point(b), w).unsigned_abs()
+    side(a, b).orientation(w).unsigned_abs()
 }
 
-// Whether the face a, b, c owns the point w.
-fn face_owns(a: CheckedVertex, b: CheckedVertex, c: CheckedVertex, w: Point) -> bool
-    ensures { result ≡ owning a b c w }
-{
-    owns(plan_point(a), plan_point(b), plan_point(c), w)
-}
-
-// The height of the face a, b, c at a point that it owns, rounded down.
-fn face_height(a: CheckedVertex, b: CheckedVertex, c: CheckedVertex, w: Point) -> u32
-    requires { owning a b c w ≡ true }
-    ensures value { result ≡ height_at a b c w }
-    ensures low { result ≤ 32767 }
-{
-    let sum = u64::from(a.height) * weight(b, c, w)
-        + u64::from(b.height) * weight(c, a, w)
-        + u64::from(c.height) * weight(a, b, w);
-    let whole = weight(a, b, plan_point(c));
-    (sum / whole) as u32
-}
-
-// What a reading adds to the face a, b, c.
-fn misfit_at(a: CheckedVertex, b: CheckedVertex, c: CheckedVertex, reading: Reading) -> u64
-    ensures value { result ≡ adds a b c reading }
-    ensures small { result ≤ 1073676289 }
-{
-    let w = Point {
-        east: reading.east,
-        north: reading.north,
-    };
-    if reading.height > HIGHEST || !face_owns(a, b, c, w) {
-        return 0;
+impl Face {
+    // Whether the face owns the point w.
+    fn owns(self, w: Point) -> bool
+        ensures { result ≡ owning self.a self.b self.c w }
+    {
+        self.plan().owns(w)
     }
-    square_gap(reading.height, face_height(a, b, c, w))
+
+    // The height of the face at a point that it owns, rounded down.
+    fn height_at(self, w: Point) -> u32
+        requires { owning self.a self.b self.c w ≡ true }
+        ensures value { result ≡ height_at self.a self.b self.c w }
+        ensures low { result ≤ 32767 }
+    {
+        let Face { a, b, c } = self;
+        let sum = u64::from(a.height) * weight(b, c, w)
+            + u64::from(b.height) * weight(c, a, w)
+            + u64::from(c.height) * weight(a, b, w);
+        let whole = weight(a, b, c.point());
+        (sum / whole) as u32
+    }
+}
+
+impl Reading {
+    // Where the reading was taken. A vertex has a `point` too, of one line as well; a trait would be no shorter.
+    fn point(self) -> Point
+        ensures { result ≡ reading_point self }
+    {
+        Point {
+            east: self.east,
+            north: self.north,
+        }
+    }
+
+    // What the reading adds to a face.
+    fn misfit(self, face: Face) -> u64
+        ensures value { result ≡ adds face.a face.b face.c self }
+        ensures small { result ≤ 1073676289 }
+    {
+        let w = self.point();
+        if self.height > HIGHEST || !face.owns(w) {
+            return 0;
+        }
+        square_gap(self.height, face.height_at(w))
+    }
 }
 
 impl<R: Readings> Cost for Misfit<R> {
@@ -91,21 +104,16 @@ impl<R: Readings> Cost for Misfit<R> {
 
     ghost lawful = { λ m. misfit_lawful (R.Readings.list m.readings) };
 
-    fn face_part(&self, a: CheckedVertex, b: CheckedVertex, c: CheckedVertex) -> u64 {
+    // A loop over the lent elements, which counts no index; that it stays below 2^48 is shown step by step.
+    fn face_part(&self, face: Face) -> u64 {
         let mut sum = 0;
         for reading in self.readings.lent().iter().take(4096) {
-            sum += misfit_at(a, b, c, *reading);
+            sum += reading.misfit(face);
         }
         sum
     }
 
-    fn edge_part(
-        &self,
-        a: CheckedVertex,
-        b: CheckedVertex,
-        l: CheckedVertex,
-        r: CheckedVertex,
-    ) -> u64 {
+    fn edge_part(&self, edge: Edge) -> u64 {
         0
     }
 }

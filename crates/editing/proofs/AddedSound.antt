@@ -1,8 +1,8 @@
 -- A new vertex in the face that owns its point keeps a sound mesh sound.
-use Rattle.std.proofs.Common.{◌≡◌, ℕ, zero, suc, ◌+◌, ◌*◌, ◌<◌, ◌≤◌, Bool, true, false, cond, ◌&&◌, length, pos, ◌<ℤ◌, is_some, Some, None, Option, sym, refl, ap, ◌∙◌, subst, arith}
+use Rattle.std.proofs.Common.{◌≡◌, ℕ, zero, suc, ◌+◌, ◌*◌, ◌<◌, ◌≤◌, Bool, true, false, cond, ◌&&◌, length, pos, ◌<ℤ◌, is_some, Some, None, Option, sym, refl, ap, ◌∙◌, subst, arith, ⊎_elim}
 use Rattle.std.proofs.lemmas.Bool.{both_ways, and_parts, and_from, eq-eqb}
 use Rattle.arith.specs.Ranges.{first, or_else}
-use Rattle.arith.proofs.Ranges.{first_passes, last_or_below, either}
+use Rattle.arith.proofs.Ranges.{first_passes, last_or_below}
 use Rattle.mesh.specs.declared.Point.{Point}
 use Rattle.mesh.specs.declared.Vertex.{Vertex}
 use Rattle.mesh.specs.Geometry.{orientation, positive, admits, place}
@@ -30,7 +30,7 @@ none_passes : (test : ℕ → Bool) (n : ℕ) → is_some (first test n) ≡ fal
 none_passes test zero e k h = absurd (omega arith)
 none_passes test (suc n) e k h =
     let p = neither (first test n) (test n) n e in
-    either (last_or_below k n h) (none_passes test n p.0 k) (λ z. ap test z ∙ p.1)
+    ⊎_elim (none_passes test n p.0 k) (λ z. ap test z ∙ p.1) (last_or_below k n h)
 
 -- no vertex in use stands at w
 unoccupied : (m : Mesh) (w : Point) → is_occupied m w ≡ false → (v : ℕ) → v < m.header.count → SamePlace w (place (vertex m v)) → ⊥

@@ -1,8 +1,8 @@
 -- How a tally changes where its test changes at a few numbers.
-use Rattle.std.proofs.Common.{◌≡◌, ℕ, zero, suc, ◌+◌, ◌<◌, ◌≤◌, Bool, true, false, cond, eqb, sym, refl, ap, ◌∙◌, subst, ap₂, arith}
+use Rattle.std.proofs.Common.{◌≡◌, ℕ, zero, suc, ◌+◌, ◌<◌, ◌≤◌, Bool, true, false, cond, eqb, sym, refl, ap, ◌∙◌, subst, ap₂, arith, ⊎_elim}
 use Rattle.std.proofs.lemmas.Bool.{eq-eqb, ne_eqb, cases_eq, cases_lt}
 use Rattle.arith.specs.Ranges.{tally}
-use Rattle.arith.proofs.Ranges.{last_or_below, either}
+use Rattle.arith.proofs.Ranges.{last_or_below}
 
 -- what one number adds
 abbrev unit : Bool → ℕ
@@ -24,8 +24,7 @@ tally_without f g i zero l z e = absurd (omega arith)
 tally_without f g i (suc n) l z e =
     let p = one_more (f n) (tally f n) in
     let q = one_more (g n) (tally g n) in
-    either (last_or_below i n l)
-    (λ b.
+    ⊎_elim (λ b.
     let r = tally_without f g i n b z (λ k j. e k (omega arith)) in
     let s = ap unit (e n (omega arith) (λ x. omega arith)) in
     omega arith)
@@ -35,18 +34,19 @@ tally_without f g i (suc n) l z e =
     let t = ap (λ y. unit (g y)) x in
     let u = ap unit z in
     omega arith)
+    (last_or_below i n l)
 
 -- nothing is counted from n on
 tally_stays : (f : ℕ → Bool) (n k : ℕ) → n ≤ k → ((j : ℕ) → n ≤ j → j < k → f j ≡ false) → tally f k ≡ tally f n
 tally_stays f n zero l e = let z : zero ≡ n = omega arith in ap (tally f) z
 tally_stays f n (suc k) l e =
-    either (cases_lt k n)
-    (λ h. let z : suc k ≡ n = omega arith in ap (tally f) z)
+    ⊎_elim (λ h. let z : suc k ≡ n = omega arith in ap (tally f) z)
     (λ h.
     let p = one_more (f k) (tally f k) in
     let q = ap unit (e k h (omega arith)) in
     let r = tally_stays f n k h (λ j a b. e j a (omega arith)) in
     omega arith)
+    (cases_lt k n)
 
 -- h without i
 abbrev without : (ℕ → Bool) → ℕ → ℕ → Bool
@@ -95,12 +95,12 @@ tally_moved f g n N b c b' c' lb lc bc nb bN nc cN bc' gb gc mb mc below above =
   where
     high : (j : ℕ) → n ≤ j → j < N → without (without g b') c' j ≡ false
     high j a l =
-        either (cases_eq j c')
-        (λ e. subst (λ (x : ℕ). without (without g b') c' x ≡ false) (sym e) (without_at (without g b') c'))
+        ⊎_elim (λ e. subst (λ (x : ℕ). without (without g b') c' x ≡ false) (sym e) (without_at (without g b') c'))
         (λ ne. without_false (without g b') c' j
-        (either (cases_eq j b')
-        (λ e. subst (λ (x : ℕ). without g b' x ≡ false) (sym e) (without_at g b'))
-        (λ ne'. without_false g b' j (above j a l ne' ne))))
+        (⊎_elim (λ e. subst (λ (x : ℕ). without g b' x ≡ false) (sym e) (without_at g b'))
+        (λ ne'. without_false g b' j (above j a l ne' ne))
+        (cases_eq j b')))
+        (cases_eq j c')
 
     left : (j : ℕ) → j < n → without (without g b') c' j ≡ g j
     left j l = without_else (without g b') c' j (λ e. omega arith) ∙ without_else g b' j (λ e. omega arith)
@@ -108,8 +108,8 @@ tally_moved f g n N b c b' c' lb lc bc nb bN nc cN bc' gb gc mb mc below above =
     low : (j : ℕ) → j < n → without (without g b') c' j ≡ without (without f b) c j
     low j l =
         left j l
-        ∙ either (cases_eq j c)
-        (λ e. ap g e ∙ gc ∙ sym (subst (λ (x : ℕ). without (without f b) c x ≡ false) (sym e) (without_at (without f b) c)))
-        (λ ne. either (cases_eq j b)
-        (λ e. ap g e ∙ gb ∙ sym (without_false (without f b) c j (subst (λ (x : ℕ). without f b x ≡ false) (sym e) (without_at f b))))
-        (λ ne'. below j l ne' ne ∙ sym (without_else (without f b) c j ne ∙ without_else f b j ne')))
+        ∙ ⊎_elim (λ e. ap g e ∙ gc ∙ sym (subst (λ (x : ℕ). without (without f b) c x ≡ false) (sym e) (without_at (without f b) c)))
+        (λ ne. ⊎_elim (λ e. ap g e ∙ gb ∙ sym (without_false (without f b) c j (subst (λ (x : ℕ). without f b x ≡ false) (sym e) (without_at f b))))
+        (λ ne'. below j l ne' ne ∙ sym (without_else (without f b) c j ne ∙ without_else f b j ne'))
+        (cases_eq j b))
+        (cases_eq j c)

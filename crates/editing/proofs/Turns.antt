@@ -1,9 +1,8 @@
 -- A face may be read from any of its half-edges; the ends of a half-edge differ; its twin is neither itself nor the next one.
-use Rattle.std.proofs.Common.{◌≡◌, ℕ, ◌+◌, ◌*◌, ◌/◌, ◌<◌, ◌≤◌, ◌≢◌, ◌⊎◌, [], ◌∷◌, ℤ, pos, ◌<ℤ◌, sym, ap, ◌∙◌, subst, ap₂, inl, inr, ⊎_elim, arith}
+use Rattle.std.proofs.Common.{◌≡◌, ℕ, ◌+◌, ◌*◌, ◌/◌, ◌<◌, ◌≤◌, ◌≢◌, ◌⊎◌, ℤ, pos, ◌<ℤ◌, sym, ap, ◌∙◌, subst, ap₂, inl, inr, ⊎_elim, arith}
 use borrow.Author.Differences.{ints}
 use Rattle.std.proofs.lemmas.Bool.{cases_eq}
 use Rattle.std.proofs.lemmas.Bool.Decides.{nat_tests}
-use Rattle.arith.proofs.Ring.{con, ring}
 use Rattle.mesh.specs.declared.Point.{Point}
 use Rattle.mesh.specs.Geometry.{orientation, place}
 use Rattle.mesh.specs.Meshes.{Mesh, next, previous, used, half, vertex, origin_point, twin_of, no_twin}

@@ -7,3 +7,4 @@ pub mod Sides
 pub mod Quads
 pub mod Local
 pub mod Twice
+pub mod JobSettings

@@ -1,23 +1,26 @@
 -- A call's refusal by what its tests answer, and its rule by its refusal.
-use Rattle.std.proofs.Common.{◌≡◌, ℕ, ◌≤◌, Bool, true, false, cond, not, ltb, List, [], ◌∷◌, ◌++◌, length, is_some, IsErrAnd, Some, None, Option, Result, sym, refl, ap, ◌∙◌, subst, ap₂, arith}
+use Rattle.std.proofs.Common.{◌≡◌, ℕ, Bool, true, false, cond, not, ltb, List, [], ◌∷◌, ◌++◌, is_some, IsErrAnd, Some, None, Option, Result, sym, refl, ap, ◌∙◌, subst, ap₂, arith}
+use Rattle.std.specs.Option.{ok_or}
+use Rattle.std.proofs.lemmas.Bool.{both_ways, and_parts, ltb-true, eq-eqb}
 use Rattle.std.proofs.lemmas.Result.{err_from_is_err_and}
 use Rattle.mesh.specs.declared.Plan.{Plan}
 use Rattle.mesh.specs.declared.Vertex.{Vertex}
 use Rattle.mesh.specs.declared.HalfEdge.{HalfEdge}
 use Rattle.mesh.specs.declared.Refusal.{Refusal}
+use Rattle.mesh.specs.declared.Refusal.TheVariants.{Unowned}
 use Rattle.mesh.specs.Geometry.{place}
-use Rattle.mesh.specs.Meshes.{Mesh, half, twin_of, interior, owner}
-use Rattle.mesh.specs.Sound.{Indexed, is_sound, extent_fits, strictly_inside, is_occupied}
+use Rattle.mesh.specs.Meshes.{Mesh, used, half, twin_of, has_twin, interior, owner}
+use Rattle.mesh.specs.Sound.{Sound, is_sound, extent_fits, strictly_inside, is_occupied}
 use Rattle.mesh.specs.Edits.{laid, added, added_in}
-use Rattle.editing.specs.Flips.{is_free, convex, edge_number, turned, with_half_edges, flipped, with_pin, pinned}
+use Rattle.editing.specs.Flips.{is_interior, is_free, convex, edge_number, turned, with_half_edges, flipped, with_pin, pinned}
 use Rattle.mesh.specs.Refusals.{number}
-use Rattle.mesh.proofs.Laid.{laid_indexed}
 use Rattle.cost.specs.Costs.{Parts, total}
 use Rattle.worklist.specs.Orders.{Order, Refilled}
 use Rattle.job.specs.declared.Call.{Call}
 use Rattle.job.specs.declared.Call.TheVariants.{Lay, Add, Flip, Pin, Unpin}
 use Rattle.job.specs.declared.Answer.{Answer}
 use Rattle.job.specs.declared.Answer.TheVariants.{Refused, Laid, Added, Flipped, Pinned, Unpinned}
+use Rattle.job.specs.Checks.{Addable, Editable}
 use Rattle.job.specs.Rule.{State, Rule, Decided, Taken, heights_fit, too_short, is_full, edge_faults, faults, refusal, first_fault, Checked}
 
 -- what a test answers where the code asked it of y, which is x
@@ -38,6 +41,21 @@ pub add_refusal :
     refusal m (Add w) ≡ first_fault ((4, not u) ∷ (2, v) ∷ (5, not x) ∷ (6, y) ∷ (7, z) ∷ (8, not (is_some o)) ∷ [])
 unfolding refusal faults
 add_refusal m w e f g h j k = λ i. first_fault ((4, not (e i)) ∷ (2, f i) ∷ (5, not (g i)) ∷ (6, h i) ∷ (7, j i) ∷ (8, not (is_some (k i))) ∷ [])
+
+-- what the checks of an add return, once nothing but the want of a face can speak against it
+pub add_checked : (m : Mesh) (w : Vertex) (o : Option ℕ) → refusal m (Add w) ≡ first_fault ((8, not (is_some o)) ∷ []) → ((f : ℕ) → o ≡ Some f → Addable m w f) →
+    Checked (refusal m (Add w)) (ok_or o Unowned) (Addable m w)
+add_checked m w None e found = e
+add_checked m w (Some f) e found = (e, found f refl)
+
+-- the refusal of any edit by hand
+pub edge_refusal : (m : Mesh) (s : ℕ) {x y : Bool} → is_sound m ≡ x → is_interior m s ≡ y → first_fault (edge_faults m s) ≡ first_fault ((4, not x) ∷ (9, not y) ∷ [])
+edge_refusal m s e f = λ i. first_fault ((4, not (e i)) ∷ (9, not (f i)) ∷ [])
+
+pub editable : (m : Mesh) (s : ℕ) → Sound m → is_interior m s ≡ true → Editable m s
+editable m s σ e =
+    let p = and_parts (ltb s (used m)) (has_twin m s) e in
+    record { sound = σ; within = ltb-true _ _ p.0; twinned = λ none. both_ways (has_twin m s) (ap not (eq-eqb _ _ none)) p.1 }
 
 -- the first fault of two lists: of the first, if it has one
 fault_first : (fs gs : List (ℕ × Bool)) (n : ℕ) → first_fault fs ≡ Some n → first_fault (fs ++ gs) ≡ Some n
@@ -151,10 +169,6 @@ module _ (K : Parts) (Q : Order) (lookahead : ℕ) (s u : State) where
       let e : u.mesh ≡ added s.mesh w = written ∙ ap (added_in s.mesh w) (sym owned) in
       taken K Q lookahead s (Add w) (Added s.mesh.header.count) u free
       (refl, (e, subst (λ (m : Mesh). Refilled Q (interior m) u.waiting) e refilled))
-
--- what a lay has written may be read
-pub written_indexed : (m m' : Mesh) (p : Plan) → m' ≡ laid m p → 4 ≤ length m.vertices → 6 ≤ length m.half_edges → Indexed m'
-written_indexed m m' p e v h = subst Indexed (sym e) (laid_indexed m p v h)
 
 -- the memory after a flip, and after a pin
 pub flip_written : (m : Mesh) (s : ℕ) (hs : List HalfEdge) → hs ≡ turned m.half_edges s (twin_of m s) → with_half_edges m hs ≡ flipped m s

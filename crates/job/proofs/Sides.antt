@@ -1,13 +1,13 @@
 -- The cost of the interior edges as a sum over half-edges: each edge is counted from both its half-edges.
-use Rattle.std.proofs.Common.{◌≡◌, ℕ, ◌+◌, ◌*◌, ◌<◌, true, false, cond, ◌&&◌, ltb, ◌≢◌, sym, refl, ap, ◌∙◌, subst, ⊎_elim, arith}
-use Rattle.std.proofs.lemmas.Bool.{not-true, not_from_false, not-false, ne_eqb, eqb-true, eqb-false, lt-ltb, le-ltb, cases_Bool, cases_lt, cond-true, cond-false}
+use Rattle.std.proofs.Common.{◌≡◌, ℕ, ◌+◌, ◌*◌, ◌<◌, true, false, cond, ◌&&◌, ltb, ◌≢◌, sym, refl, ap, ◌∙◌, ⊎_elim, arith}
+use Rattle.std.proofs.lemmas.Bool.{not_from_false, not-false, ne_eqb, eqb-true, lt-ltb, le-ltb, cases_Bool, cases_lt, cond-true, cond-false}
 use Rattle.arith.specs.Ranges.{sum}
 use Rattle.arith.proofs.Sums.{sum_same, sum_sum}
 use Rattle.arith.proofs.Reindexing.{masked, sum_permuted, sum_selected}
 use Rattle.mesh.specs.Meshes.{Mesh, next, previous, no_twin, used, half, vertex, twin_of, has_twin, is_edge_number, interior}
 use Rattle.mesh.specs.Sound.{Sound}
 use Rattle.mesh.specs.Geometry.{checked}
-use Rattle.editing.proofs.Quadrilaterals.{Edge, edge_of, not_none, clear}
+use Rattle.editing.proofs.Quadrilaterals.{Edge, edge_of, clear}
 use Rattle.tiling.proofs.Across.{across, twinned, twin_back, across_yes, across_no, across_below, across_twice}
 use Rattle.cost.specs.Costs.{Parts, LawfulCost, end, edge_cost, edge_sum}
 use Rattle.job.specs.Quads.{side_at}

@@ -5,11 +5,10 @@ use Rattle.mesh.specs.declared.Plan.{Plan}
 use Rattle.mesh.specs.declared.Vertex.{Vertex}
 use Rattle.mesh.specs.Geometry.{place}
 use Rattle.mesh.specs.Meshes.{Mesh, used, half, owner}
-use Rattle.mesh.specs.Sound.{Sound, Indexed}
+use Rattle.mesh.specs.Sound.{Sound}
 use Rattle.mesh.proofs.Decide.{sound_known}
-use Rattle.mesh.proofs.Indices.{sound_indexed}
-use Rattle.mesh.specs.Edits.{laid, added}
-use Rattle.editing.specs.Flips.{is_interior, is_free, convex, is_flippable, flipped}
+use Rattle.mesh.specs.Edits.{laid, added, added_in}
+use Rattle.editing.specs.Flips.{is_interior, is_free, convex, is_flippable, flipped, pinned}
 use Rattle.editing.proofs.LaidSound.{lay_makes_sound}
 use Rattle.editing.proofs.AddedSound.{add_keeps_sound}
 use Rattle.editing.proofs.FlipLaws.{flip_keeps_sound}
@@ -28,7 +27,7 @@ some_of (Some k) e = (k, refl)
 some_of None e = absurd (both_ways false refl e)
 
 -- what a call that is not refused has to go on
-lay_found : (m : Mesh) (p : Plan) → refusal m (Lay p) ≡ None → Sound (laid m p)
+pub lay_found : (m : Mesh) (p : Plan) → refusal m (Lay p) ≡ None → Sound (laid m p)
 unfolding refusal faults
 lay_found m p e =
     let c = no_faults (faults m (Lay p)) e in
@@ -68,19 +67,26 @@ unpin_found : (m : Mesh) (s : ℕ) → refusal m (Unpin s) ≡ None → Sound m 
 unfolding refusal faults
 unpin_found m s e = let c = no_faults (faults m (Unpin s)) e in (sound_known m (not-false _ c.0), not-false (is_interior m s) c.1.0)
 
--- what a flip has written may be read
-pub flip_readable : (m : Mesh) (s : ℕ) → refusal m (Flip s) ≡ None → Indexed (flipped m s)
-flip_readable m s e = let f = flip_found m s e in sound_indexed (flipped m s) (flip_keeps_sound m s f.0 f.1)
+-- what each call has written is sound
+pub add_sound : (m : Mesh) (w : Vertex) (f : ℕ) → refusal m (Add w) ≡ None → owner m (place w) ≡ Some f → Sound (added_in m w (Some f))
+unfolding added
+add_sound m w f e owned = subst (λ (o : Option ℕ). Sound (added_in m w o)) owned (add_found m w e)
+
+pub flip_sound : (m : Mesh) (s : ℕ) → refusal m (Flip s) ≡ None → Sound (flipped m s)
+flip_sound m s e = let f = flip_found m s e in flip_keeps_sound m s f.0 f.1
+
+pub unpin_sound : (m : Mesh) (s : ℕ) → refusal m (Unpin s) ≡ None → Sound (pinned 0 m s)
+unpin_sound m s e = let f = unpin_found m s e in pin_keeps_sound m s 0 f.0 f.1 (omega arith)
 
 module _ (K : Parts) (Q : Order) (lookahead : ℕ) (s u : State) where
   -- a taken call leaves a sound mesh, whatever it found
   taken_sound : (c : Call) (a : Answer) → refusal s.mesh c ≡ None → Taken K Q lookahead s c a u → Sound u.mesh
   taken_sound (Lay p) a e t = subst Sound (sym t.1.0) (lay_found s.mesh p e)
   taken_sound (Add w) a e t = subst Sound (sym t.1.0) (add_found s.mesh w e)
-  taken_sound (Flip k) a e t = let f = flip_found s.mesh k e in subst Sound (sym t.1.0) (flip_keeps_sound s.mesh k f.0 f.1)
+  taken_sound (Flip k) a e t = subst Sound (sym t.1.0) (flip_sound s.mesh k e)
   taken_sound (Pin k) a e t =
       let f = pin_found s.mesh k e in subst Sound (sym (ap (λ (v : State). v.mesh) t.1)) (pin_keeps_sound s.mesh k 1 f.0 f.1 (omega arith))
-  taken_sound (Unpin k) a e t = let f = unpin_found s.mesh k e in subst Sound (sym t.1.0) (pin_keeps_sound s.mesh k 0 f.0 f.1 (omega arith))
+  taken_sound (Unpin k) a e t = subst Sound (sym t.1.0) (unpin_sound s.mesh k e)
 
   by : (o : Option ℕ) (c : Call) (a : Answer) → refusal s.mesh c ≡ o → Decided o K Q lookahead s c a u → KeepsSound s.mesh a u.mesh
   by (Some n) c (Refused r) e d = λ sound. subst (λ (v : State). Sound v.mesh) (sym d.3) sound

@@ -1,3 +1,4 @@
 pub mod Rule
 pub mod Checks
 pub mod Quads
+pub mod Settings

@@ -24,8 +24,11 @@ pub record State : Type 0 where
   pub mesh : Mesh
   pub waiting : List ℕ
 
+abbrev pub state_of : Mesh → List ℕ → State
+state_of m ws = record { mesh = m; waiting = ws }
+
 abbrev pub state : Header → List Vertex → List HalfEdge → List ℕ → State
-state h vs hs ws = record { mesh = mesh h vs hs; waiting = ws }
+state h vs hs ws = state_of (mesh h vs hs) ws
 
 -- ---- refusals
 

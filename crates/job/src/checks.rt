@@ -1,13 +1,13 @@
-// What is checked before a call: the first refusal in the stated order.
+// What is checked before a call: the first refusal in the stated order; each contract names another call. `as` stands where Rust has no `From`.
 ghost use Rattle.std.specs.Prelude.{◌≡◌, ◌<◌, ◌≤◌, length};
 ghost use Rattle.mesh.specs.Meshes.{seen};
-ghost use Rattle.mesh.specs.Sound.{Roomy};
 ghost use Rattle.job.specs.declared.Call.TheVariants.{Lay, Add, Flip, Pin, Unpin};
 ghost use Rattle.job.specs.Checks.{Addable, Editable};
 ghost use Rattle.job.specs.Rule.{heights_fit, too_short, is_full as full, edge_faults, first_fault, refusal, Checked};
 
 use editing::flips::{is_convex, is_interior};
 use mesh::soundness::extent_fits;
+use mesh::views::{RoomyMesh, SoundMesh};
 use mesh::{MeshRef, Plan, Refusal, Vertex};
 
 // Whether no corner's height is above 32,767.
@@ -25,13 +25,13 @@ fn is_too_short(mesh: MeshRef) -> bool
 }
 
 // Whether there is no room for one more vertex with its six half-edges.
-fn is_full(mesh: MeshRef) -> bool
-    requires { Roomy (seen mesh) }
-    ensures { result ≡ full (seen mesh.entry) }
+fn is_full(roomy: RoomyMesh) -> bool
+    ensures { result ≡ full (seen roomy.entry.mesh) }
 {
+    let mesh = roomy.mesh;
     mesh.header.count >= 1024
         || mesh.vertices.len() <= mesh.header.count as usize
-        || mesh.half_edges.len() < mesh.used() + 6
+        || mesh.half_edges.len() < roomy.used() + 6
 }
 
 // Why the rectangle cannot be laid.
@@ -54,9 +54,7 @@ pub fn check_lay(mesh: MeshRef, p: Plan) -> Result<(), Refusal>
 pub fn check_add(mesh: MeshRef, w: Vertex) -> Result<usize, Refusal>
     ensures { Checked (refusal (seen mesh.entry) (Add w)) result (Addable (seen mesh.entry) w) }
 {
-    if !mesh.is_sound() {
-        return Err(Refusal::Unsound);
-    }
+    let sound = mesh.sound()?;
     if w.height > 32767 {
         return Err(Refusal::Height);
     }
@@ -64,60 +62,56 @@ pub fn check_add(mesh: MeshRef, w: Vertex) -> Result<usize, Refusal>
     if !mesh.strictly_inside(p) {
         return Err(Refusal::Outside);
     }
-    if mesh.is_occupied(p) {
+    let roomy = sound.roomy();
+    if roomy.is_occupied(p) {
         return Err(Refusal::Occupied);
     }
-    if is_full(mesh) {
+    if is_full(roomy) {
         return Err(Refusal::Full);
     }
-    match mesh.owner(p) {
-        Some(f) => Ok(f),
-        None => Err(Refusal::Unowned),
-    }
+    sound.placed().owner(p).ok_or(Refusal::Unowned)
 }
 
-// Why the edge of half-edge s cannot be edited by hand, whatever the edit.
-fn check_edge(mesh: MeshRef, s: usize) -> Result<(), Refusal>
-    ensures { Checked (first_fault (edge_faults (seen mesh.entry) s)) result (λ _. Editable (seen mesh.entry) s) }
+// Why the edge of half-edge s cannot be edited by hand, whatever the edit; else the mesh, which is sound.
+fn check_edge<'a>(mesh: MeshRef<'a>, s: usize) -> Result<SoundMesh<'a>, Refusal>
+    ensures { Checked (first_fault (edge_faults (seen mesh.entry) s)) result (λ sound. (sound.mesh ≡ mesh.entry) × Editable (seen mesh.entry) s) }
 {
-    if !mesh.is_sound() {
-        return Err(Refusal::Unsound);
-    }
-    if !is_interior(mesh, s) {
+    let sound = mesh.sound()?;
+    if !is_interior(sound.roomy(), s) {
         return Err(Refusal::NotInterior);
     }
-    Ok(())
+    Ok(sound)
 }
 
 // Why the edge of half-edge s cannot be pinned.
-pub fn check_pin(mesh: MeshRef, s: usize) -> Result<(), Refusal>
-    ensures { Checked (refusal (seen mesh.entry) (Pin s)) result (λ _. Editable (seen mesh.entry) s) }
+pub fn check_pin<'a>(mesh: MeshRef<'a>, s: usize) -> Result<SoundMesh<'a>, Refusal>
+    ensures { Checked (refusal (seen mesh.entry) (Pin s)) result (λ sound. (sound.mesh ≡ mesh.entry) × Editable (seen mesh.entry) s) }
 {
-    check_edge(mesh, s)?;
-    if mesh.half_edges[s].pin != 0 {
+    let sound = check_edge(mesh, s)?;
+    if mesh.half_edges[s].is_pinned() {
         return Err(Refusal::PinState);
     }
-    Ok(())
+    Ok(sound)
 }
 
 // Why the edge of half-edge s cannot be flipped: why it cannot be pinned either, or no room for the other diagonal.
-pub fn check_flip(mesh: MeshRef, s: usize) -> Result<(), Refusal>
-    ensures { Checked (refusal (seen mesh.entry) (Flip s)) result (λ _. Editable (seen mesh.entry) s) }
+pub fn check_flip<'a>(mesh: MeshRef<'a>, s: usize) -> Result<SoundMesh<'a>, Refusal>
+    ensures { Checked (refusal (seen mesh.entry) (Flip s)) result (λ sound. (sound.mesh ≡ mesh.entry) × Editable (seen mesh.entry) s) }
 {
-    check_pin(mesh, s)?;
-    if !is_convex(mesh, s) {
+    let sound = check_pin(mesh, s)?;
+    if !is_convex(sound.placed(), s) {
         return Err(Refusal::NotConvex);
     }
-    Ok(())
+    Ok(sound)
 }
 
-// Why the pin of the edge of half-edge s cannot be taken out.
-pub fn check_unpin(mesh: MeshRef, s: usize) -> Result<(), Refusal>
-    ensures { Checked (refusal (seen mesh.entry) (Unpin s)) result (λ _. Editable (seen mesh.entry) s) }
+// Why the pin of the edge of half-edge s cannot be taken out. No one function with `check_pin`: a flag would hide which is asked.
+pub fn check_unpin<'a>(mesh: MeshRef<'a>, s: usize) -> Result<SoundMesh<'a>, Refusal>
+    ensures { Checked (refusal (seen mesh.entry) (Unpin s)) result (λ sound. (sound.mesh ≡ mesh.entry) × Editable (seen mesh.entry) s) }
 {
-    check_edge(mesh, s)?;
-    if mesh.half_edges[s].pin == 0 {
+    let sound = check_edge(mesh, s)?;
+    if !mesh.half_edges[s].is_pinned() {
         return Err(Refusal::PinState);
     }
-    Ok(())
+    Ok(sound)
 }

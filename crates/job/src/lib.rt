@@ -7,7 +7,7 @@ pub mod job;
 use mesh::{Plan, Refusal, Vertex};
 
 // A call, with what it is asked.
-#[derive(Clone, Copy)]
+#[derive(Clone, Copy, PartialEq, Eq, Debug)]
 pub enum Call {
     Lay(Plan),
     Add(Vertex),
@@ -18,7 +18,7 @@ pub enum Call {
 }
 
 // What a call answers.
-#[derive(Clone, Copy)]
+#[derive(Clone, Copy, PartialEq, Eq, Debug)]
 pub enum Answer {
     Refused(Refusal),
     // The mesh's cost.

@@ -174,14 +174,8 @@ module _ (m : Mesh) where
   origin_known : origins ≡ true → (s : ℕ) → s < used m → (half m s).origin < m.header.count
   origin_known e s h = ltb-true _ _ (every_at (origin_fits m) (used m) e s h)
 
-  pub placed_known : is_placed m ≡ true → Placed m
-  placed_known e =
-      let p = and5 extent lists (corners_stand m) vertices origins e in
-      record {
-        roomy = roomy_known m p.1;
-        origins = origin_known p.4;
-        in_plan = in_plan_known m p.0 p.2 p.3;
-      }
+  pub placed_from : extent ≡ true → lists ≡ true → corners_stand m ≡ true → vertices ≡ true → origins ≡ true → Placed m
+  placed_from e l c vs o = record { roomy = roomy_known m l; origins = origin_known o; in_plan = in_plan_known m e c vs }
 
   -- the twin, where there is one
   twin_known : twins ≡ true → (s : ℕ) → s < used m → twin_of m s ≢ no_twin → (twin_of m s < used m) × (twins_agree m s (twin_of m s) ≡ true)
@@ -287,8 +281,3 @@ module _ (m : Mesh) where
 -- a test that equals the test of soundness decides soundness
 pub decided : (m : Mesh) (r : Bool) → r ≡ is_sound m → (T r → Sound m) × (Sound m → T r)
 decided m r e = ((λ t. sound_known m (sym e ∙ T_true r t)), (λ σ. true_T r (e ∙ sound_passes m σ)))
-
--- what a reader needs of a sound mesh
-pub sound_placed : (m : Mesh) → Sound m → Placed m
-unfolding is_sound
-sound_placed m σ = placed_known m (and_parts (is_placed m) (is_joined m) (sound_passes m σ)).0

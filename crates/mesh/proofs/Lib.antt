@@ -3,6 +3,6 @@ pub mod Vertices
 pub mod Decide
 pub mod Orientations
 pub mod Borders
-pub mod Indices
-pub mod Laid
 pub mod Numbers
+pub mod Twins
+pub mod Loans

@@ -1,11 +1,12 @@
 -- A triangulated rectangle: face f has the half-edges 3f, 3f + 1 and 3f + 2, counterclockwise.
-use Rattle.std.specs.Prelude.{ℕ, ◌+◌, ◌-◌, ◌*◌, ◌%◌, Bool, cond, not, ◌&&◌, List, Option, ◌==◌, nat_lt, slice_index_or}
+use Rattle.std.specs.Prelude.{◌≡◌, ℕ, ◌+◌, ◌-◌, ◌*◌, ◌%◌, Bool, cond, not, ◌&&◌, List, Some, None, Option, ◌==◌, nat_lt, slice_index_or}
 use Rattle.arith.specs.Ranges.{select, first}
 use Rattle.mesh.specs.declared.Header.{Header}
 use Rattle.mesh.specs.declared.Point.{Point}
 use Rattle.mesh.specs.declared.Vertex.{Vertex}
 use Rattle.mesh.specs.declared.HalfEdge.{HalfEdge}
 use Rattle.mesh.specs.declared.MeshRef.{MeshRef}
+use Rattle.mesh.specs.declared.MeshMut.{MeshMut}
 use Rattle.mesh.specs.Geometry.{owns, place}
 
 -- the memory that a call is lent; entries past those in use may hold anything
@@ -20,6 +21,16 @@ mesh h vs hs = record { header = h; vertices = vs; half_edges = hs }
 -- what a borrowed mesh holds
 abbrev pub seen : MeshRef → Mesh
 seen r = mesh r.header.now r.vertices.now r.half_edges.now
+
+-- what a mesh that is lent to be written holds
+abbrev pub lent : MeshMut → Mesh
+lent r = mesh r.header.now r.vertices.now r.half_edges.now
+
+-- the same three parts are lent
+pub record SameLoan (old new : MeshMut) : Type 0 where
+  pub header : new.header.ghost_name ≡ old.header.ghost_name
+  pub vertices : new.vertices.ghost_name ≡ old.vertices.ghost_name
+  pub half_edges : new.half_edges.ghost_name ≡ old.half_edges.ghost_name
 
 -- the next half-edge of the same face
 unfoldable pub next : ℕ → ℕ
@@ -68,6 +79,10 @@ twin_of m s = (half m s).twin
 
 abbrev pub has_twin : Mesh → ℕ → Bool
 has_twin m s = not (twin_of m s == no_twin)
+
+-- the half-edge that runs back, if there is one
+abbrev pub twin_if_any : HalfEdge → Option ℕ
+twin_if_any h = cond (h.twin == no_twin) None (Some h.twin)
 
 -- an interior edge is a pair of twins, and goes by the lower number
 abbrev pub is_edge_number : Mesh → ℕ → Bool

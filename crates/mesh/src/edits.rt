@@ -1,14 +1,15 @@
-// What lay and add write into the lists.
+// What lay and add write into the lists. What the half-edges hold is a premise and no fact of a type: between two writes
+// it does not hold, and what borrows the list to be written has to keep its facts at each. `as` stands where Rust has no `From`.
 ghost use Rattle.std.specs.Prelude.{◌≡◌, ℕ, ◌+◌, ◌%◌, ◌<◌, ◌≤◌, true, length, Some, ◌≢◌};
 ghost use Rattle.mesh.specs.Edits.{half_edge, moved, corners, two_faces, laid, split_face, split_edge, added_in};
-ghost use Rattle.mesh.specs.Meshes.{mesh as lent, half_at, faces as face_count, used as in_use};
+ghost use Rattle.mesh.specs.Meshes.{lent, SameLoan, half_at, faces as face_count, used as in_use};
 ghost use Rattle.mesh.specs.Geometry.{place};
 ghost use Rattle.mesh.specs.Sound.{Sound, strictly_inside};
 
-use crate::soundness::NO_TWIN;
-use crate::{HalfEdge, Header, MeshRef, Plan, Vertex, next, previous};
+use crate::views::SoundMesh;
+use crate::{HalfEdge, Header, MeshMut, NO_TWIN, Plan, Vertex, next, previous};
 
-// A half-edge with a twin.
+// A half-edge; the number of no twin is one of a twin here.
 fn half(origin: u16, twin: usize, pin: u8) -> HalfEdge
     requires { twin < 65536 }
     ensures { result ≡ half_edge origin twin pin }
@@ -17,16 +18,6 @@ fn half(origin: u16, twin: usize, pin: u8) -> HalfEdge
         origin,
         twin: twin as u16,
         pin,
-    }
-}
-
-fn border(origin: u16) -> HalfEdge
-    ensures { result ≡ half_edge origin 65535 0 }
-{
-    HalfEdge {
-        origin,
-        twin: NO_TWIN,
-        pin: 0,
     }
 }
 
@@ -61,27 +52,29 @@ fn lay_half_edges(half_edges: &mut [HalfEdge])
     requires { 6 ≤ length half_edges.old }
     ensures { half_edges.new ≡ two_faces half_edges.old }
 {
-    half_edges[0] = border(0);
-    half_edges[1] = border(1);
+    let none = usize::from(NO_TWIN);
+    half_edges[0] = half(0, none, 0);
+    half_edges[1] = half(1, none, 0);
     half_edges[2] = half(2, 3, 0);
     half_edges[3] = half(0, 2, 0);
-    half_edges[4] = border(2);
-    half_edges[5] = border(3);
+    half_edges[4] = half(2, none, 0);
+    half_edges[5] = half(3, none, 0);
 }
 
 // The rectangle with its four corners, cut along the diagonal from corner 2 to corner 0.
-pub fn lay(header: &mut Header, vertices: &mut [Vertex], half_edges: &mut [HalfEdge], p: Plan)
-    requires vertices { 4 ≤ length vertices.old }
-    requires half_edges { 6 ≤ length half_edges.old }
-    ensures { lent header.new vertices.new half_edges.new ≡ laid (lent header.old vertices.old half_edges.old) p }
+pub fn lay(mesh: &mut MeshMut, p: Plan)
+    requires vertices { 4 ≤ length mesh.old.vertices.now }
+    requires half_edges { 6 ≤ length mesh.old.half_edges.now }
+    ensures after { lent mesh.new ≡ laid (lent mesh.old) p }
+    ensures loan { SameLoan mesh.old mesh.new }
 {
-    *header = Header {
+    *mesh.header = Header {
         width: p.width,
         depth: p.depth,
         count: 4,
     };
-    lay_vertices(vertices, p);
-    lay_half_edges(half_edges);
+    lay_vertices(mesh.vertices, p);
+    lay_half_edges(mesh.half_edges);
 }
 
 // Writes `one` to the place `to`, and the place into its twin.
@@ -92,8 +85,8 @@ pub fn put(half_edges: &mut [HalfEdge], one: HalfEdge, to: usize)
     ensures { half_edges.new ≡ moved half_edges.old one to }
 {
     half_edges[to] = one;
-    if one.twin != NO_TWIN {
-        half_edges[one.twin as usize].twin = to as u16;
+    if let Some(twin) = one.twin() {
+        half_edges[twin].twin = to as u16;
     }
 }
 
@@ -129,7 +122,7 @@ fn split_edge(half_edges: &mut [HalfEdge], s: usize, n: usize, w: u16)
     ensures { half_edges.new ≡ split_edge half_edges.old s n w }
 {
     let there = half_edges[s];
-    let t = there.twin as usize;
+    let t = usize::from(there.twin);
     let back = half_edges[t].origin;
     let (after_s, after_t) = (next(s), next(t));
     let r = half_edges[previous(s)].origin;
@@ -148,33 +141,26 @@ fn split_edge(half_edges: &mut [HalfEdge], s: usize, n: usize, w: u16)
 }
 
 // One more vertex w, strictly inside the rectangle, in face f.
-pub fn add(
-    header: &mut Header,
-    vertices: &mut [Vertex],
-    half_edges: &mut [HalfEdge],
-    w: Vertex,
-    f: usize,
-)
-    requires sound { Sound (lent header.old vertices.old half_edges.old) }
-    requires inside { strictly_inside header.old (place w) ≡ true }
-    requires within { f < face_count (lent header.old vertices.old half_edges.old) }
-    requires few { header.old.count < 1024 }
-    requires vertices { header.old.count < length vertices.old }
-    requires half_edges { in_use (lent header.old vertices.old half_edges.old) + 6 ≤ length half_edges.old }
-    ensures { lent header.new vertices.new half_edges.new ≡ added_in (lent header.old vertices.old half_edges.old) w (Some f) }
+pub fn add(mesh: &mut MeshMut, w: Vertex, f: usize)
+    requires sound { Sound (lent mesh.old) }
+    requires inside { strictly_inside mesh.old.header.now (place w) ≡ true }
+    requires within { f < face_count (lent mesh.old) }
+    requires few { mesh.old.header.now.count < 1024 }
+    requires vertices { mesh.old.header.now.count < length mesh.old.vertices.now }
+    requires half_edges { in_use (lent mesh.old) + 6 ≤ length mesh.old.half_edges.now }
+    ensures after { lent mesh.new ≡ added_in (lent mesh.old) w (Some f) }
+    ensures loan { SameLoan mesh.old mesh.new }
 {
-    let mesh = MeshRef {
-        header,
-        vertices,
-        half_edges,
+    let seen = SoundMesh {
+        mesh: mesh.as_ref(),
     };
-    let n = mesh.used();
-    let crossed = mesh.crossed(w.point(), f);
-    let v = header.count as u16;
+    let n = seen.roomy().used();
+    let crossed = seen.placed().crossed(w.point(), f);
+    let v = mesh.header.count;
     match crossed {
-        Some(s) => split_edge(half_edges, s, n, v),
-        None => split_face(half_edges, 3 * f, n, v),
+        Some(s) => split_edge(mesh.half_edges, s, n, v as u16),
+        None => split_face(mesh.half_edges, 3 * f, n, v as u16),
     }
-    vertices[header.count as usize] = w;
-    header.count += 1;
+    mesh.vertices[v as usize] = w;
+    mesh.header.count += 1;
 }

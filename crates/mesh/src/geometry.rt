@@ -1,47 +1,78 @@
 // Which side of a line a point lies on, and which face owns it.
 ghost use Rattle.std.specs.Prelude.{◌≡◌};
-ghost use Rattle.mesh.specs.Geometry.{InPlan, orientation as oriented, keeps as keeping, admits as admitting, owns as owning};
+ghost use Rattle.mesh.specs.Geometry.{InPlan, orientation as oriented, positive, keeps as keeping, admits as admitting, owns as owning};
 
 use crate::Point;
 use arith::{determinant, difference};
 
-// Twice the signed area of a, b, w: above 0 if they go round counterclockwise.
-pub fn orientation(a: Point, b: Point, w: Point) -> i64
-    requires a { InPlan a }
-    requires b { InPlan b }
-    ensures { result ≡ oriented a b w }
-{
-    determinant(
-        difference(a.east, b.east),
-        difference(a.north, w.north),
-        difference(a.north, b.north),
-        difference(a.east, w.east),
-    )
+// A directed side of a face; no coordinate of its ends is above 32,767.
+#[derive(Clone, Copy)]
+pub struct Side {
+    pub from: Point,
+    pub to: Point,
+    ghost start: { InPlan from },
+    ghost end: { InPlan to },
 }
 
-// Whether the side a → b keeps the points on it: it runs south, or exactly west.
-fn keeps(a: Point, b: Point) -> bool
-    ensures { result ≡ keeping a b }
-{
-    b.north < a.north || (b.north == a.north && b.east < a.east)
+impl Side {
+    // Twice the signed area of the triangle over the side at w: above 0 if w lies left of it.
+    pub fn orientation(self, w: Point) -> i64
+        ensures { result ≡ oriented self.from self.to w }
+    {
+        let Side { from, to } = self;
+        determinant(
+            difference(from.east, to.east),
+            difference(from.north, w.north),
+            difference(from.north, to.north),
+            difference(from.east, w.east),
+        )
+    }
+
+    // Whether the side keeps the points on it: it runs south, or exactly west.
+    fn keeps(self) -> bool
+        ensures { result ≡ keeping self.from self.to }
+    {
+        let Side { from, to } = self;
+        to.north < from.north || (to.north == from.north && to.east < from.east)
+    }
+
+    // Whether w lies left of the side, or on its line if the side keeps its points.
+    fn admits(self, w: Point) -> bool
+        ensures { result ≡ admitting self.from self.to w }
+    {
+        let area = self.orientation(w);
+        area > 0 || (area == 0 && self.keeps())
+    }
 }
 
-// Whether w lies left of the side a → b, or on its line if the side keeps its points.
-fn admits(a: Point, b: Point, w: Point) -> bool
-    requires a { InPlan a }
-    requires b { InPlan b }
-    ensures { result ≡ admitting a b w }
-{
-    let area = orientation(a, b, w);
-    area > 0 || (area == 0 && keeps(a, b))
+// A triangle in the plan; no coordinate of its corners is above 32,767.
+#[derive(Clone, Copy)]
+pub struct Triangle {
+    pub a: Point,
+    pub b: Point,
+    pub c: Point,
+    ghost first: { InPlan a },
+    ghost second: { InPlan b },
+    ghost third: { InPlan c },
 }
 
-// Whether the face a, b, c owns the point w.
-pub fn owns(a: Point, b: Point, c: Point, w: Point) -> bool
-    requires a { InPlan a }
-    requires b { InPlan b }
-    requires c { InPlan c }
-    ensures { result ≡ owning a b c w }
-{
-    orientation(a, b, c) > 0 && admits(a, b, w) && admits(b, c, w) && admits(c, a, w)
+impl Triangle {
+    // Whether the corners go round counterclockwise.
+    pub fn turns(self) -> bool
+        ensures { result ≡ positive (oriented self.a self.b self.c) }
+    {
+        let Triangle { a, b, c } = self;
+        Side { from: a, to: b }.orientation(c) > 0
+    }
+
+    // Whether the triangle owns the point w.
+    pub fn owns(self, w: Point) -> bool
+        ensures { result ≡ owning self.a self.b self.c w }
+    {
+        let Triangle { a, b, c } = self;
+        self.turns()
+            && Side { from: a, to: b }.admits(w)
+            && Side { from: b, to: c }.admits(w)
+            && Side { from: c, to: a }.admits(w)
+    }
 }

@@ -1,13 +1,19 @@
 -- Facts about the values of a line.
-use Rattle.std.proofs.Common.{◌≡◌, ℕ, suc, ◌+◌, ◌<◌, ◌≤◌, List, [], ◌∷◌, ◌++◌, length, get_or, take, drop, set, Some, None, Ok, Err, Option, Result, sym, refl, ap, ◌∙◌, append_assoc, add-zero, add-one, arith}
-use Rattle.std.proofs.lemmas.List.{append-nil, get_or-drop, drop-drop, length-drop, take_all, take_more_set, at_drop_more, at_drop_all}
-use Rattle.std.proofs.lemmas.Bool.{eq-eqb, ne_eqb}
-use Rattle.std.specs.Option.{ok_or}
-use Rattle.mesh.specs.declared.Refusal.{Refusal}
-use Rattle.mesh.specs.declared.Refusal.TheVariants.{Values}
+use Rattle.std.proofs.Common.{◌≡◌, ℕ, suc, ◌+◌, ◌<◌, ◌≤◌, Bool, false, eqb, List, [], ◌∷◌, ◌++◌, length, get_or, take, drop, set, Some, None, Ok, Err, Option, Result, Bor, sym, refl, ap, ◌∙◌, append_assoc, zero-add, add-one, arith}
+use Rattle.std.specs.Fn.{CalledAt, Mut}
+use Rattle.std.specs.Iterator.{Yields}
+use Rattle.std.specs.Iterator.Adapters.{enumerate_source, enumerate_count, enumerate_steps}
+use Rattle.std.specs.List.{enumerate_from}
+use Rattle.std.specs.Slice.Iter.{split_rest, split_done, split_callee, split_steps}
+use Rattle.std.proofs.lemmas.Iterator.{YieldsList}
+use Rattle.std.proofs.lemmas.Iterator.Consumers.{YieldsList-at, YieldsList-from_enumerate, YieldsList-turn, YieldsList-end}
+use Rattle.std.proofs.lemmas.Iterator.Splits.{YieldsList-from_slice_split}
+use Rattle.std.proofs.lemmas.List.FromFn.{length-enumerate_from, get_or-enumerate_from}
+use Rattle.std.proofs.lemmas.List.{append-nil, get_or_default, take_all, take_more_set, at_drop_more, at_drop_all}
+use Rattle.std.proofs.lemmas.Bool.{eq-eqb}
 use Rattle.text.specs.declared.LineFault.{LineFault}
 use Rattle.text.specs.Pieces.{pieces}
-use Rattle.text.specs.Values.{value, bad_field, value_first, values_from, values, in_field}
+use Rattle.text.specs.Values.{value, bad_field, value_first, values_from, values}
 
 -- ---- a reader that goes from field to field
 
@@ -16,10 +22,6 @@ abbrev pub prepended : List ℕ → Result (List ℕ) LineFault → Result (List
 prepended vs (Ok ws) = Ok (vs ++ ws)
 prepended vs (Err fault) = Err fault
 
-prepended_none : (r : Result (List ℕ) LineFault) → prepended [] r ≡ r
-prepended_none (Ok ws) = refl
-prepended_none (Err fault) = refl
-
 prepended_first : (vs : List ℕ) (field v : ℕ) (r : Result (List ℕ) LineFault) → prepended vs (value_first field (Some v) r) ≡ prepended (vs ++ (v ∷ [])) r
 prepended_first vs field v (Ok ws) = ap Ok (sym (append_assoc vs (v ∷ []) ws))
 prepended_first vs field v (Err fault) = refl
@@ -27,9 +29,6 @@ prepended_first vs field v (Err fault) = refl
 -- after i fields, the values in `out` and those of the fields that are left are all
 abbrev pub Reading : List (List ℕ) → List ℕ → ℕ → Type 0
 Reading fs out i = values_from 1 fs ≡ prepended (take i out) (values_from (i + 1) (drop i fs))
-
-pub reading_none : (fs : List (List ℕ)) (out : List ℕ) → Reading fs out 0
-reading_none fs out = sym (prepended_none (values_from 1 fs))
 
 pub reading_more : (fs : List (List ℕ)) (out : List ℕ) (i v : ℕ) → i < length fs → i < length out → value (get_or fs i []) ≡ Some v → Reading fs out i → Reading fs (set out i v) (i + 1)
 reading_more fs out i v h k e r =
@@ -47,46 +46,41 @@ pub reading_all : (fs : List (List ℕ)) (out : List ℕ) (i : ℕ) → length f
 reading_all fs out i h k r =
     r ∙ ap (prepended (take i out)) (at_drop_all (values_from (i + 1)) fs i h) ∙ ap Ok (append-nil (take i out) ∙ take_all i out k)
 
--- ---- a field
+-- ---- a `for` over the fields and their places
 
-pub field_ok : (o : Option ℕ) (field v : ℕ) → Ok v ≡ in_field (ok_or o Values) field → o ≡ Some v
-field_ok (Some w) field v e = cc
-field_ok None field v e = let z : ◌≡◌ {A = ℕ} 0 1 = cc in absurd (omega arith)
+fields_of :
+    {F : Type 0} (g : Mut F (Bor ℕ × Unit {0}) Bool) {s : _} {f : F} (parts : _) (line : List ℕ) →
+    enumerate_source s ≡ parts → enumerate_count s ≡ 0 → split_rest parts ≡ line → split_done parts ≡ false → split_callee parts ≡ f →
+    ((x : ℕ) (b : Bool) (h : F) → CalledAt g f x b h → (h ≡ f) × (b ≡ eqb x 32)) →
+    YieldsList (enumerate_steps (split_steps g)) (λ p. (p.0, p.1.now)) s (enumerate_from 0 (pieces 32 line))
+unfolding pieces
+fields_of g parts line source count rest done closure spaces =
+    YieldsList-from_enumerate (YieldsList-at source (YieldsList-from_slice_split g (λ b. eqb b 32) line rest done closure spaces)) count
 
-pub field_err : (o : Option ℕ) (field : ℕ) (f : LineFault) → Err f ≡ in_field (ok_or o Values) field → (o ≡ None) × (f ≡ bad_field field)
-field_err (Some w) field f e = let z : ◌≡◌ {A = ℕ} 0 1 = cc in absurd (omega arith)
-field_err None field f e = (refl, cc)
+-- the turn after those that yielded xs
+pub field_turn :
+    {F : Type 0} {g : Mut F (Bor ℕ × Unit {0}) Bool} {s : _} {f : F} (xs : List (ℕ × Bor (List ℕ))) (t : _) → Yields (enumerate_steps (split_steps g)) s xs t →
+    (r : Option (ℕ × Bor (List ℕ))) (u : _) → enumerate_steps (split_steps g) t r u → (parts : _) (line : List ℕ) →
+    enumerate_source s ≡ parts → enumerate_count s ≡ 0 → split_rest parts ≡ line → split_done parts ≡ false → split_callee parts ≡ f →
+    ((x : ℕ) (b : Bool) (h : F) → CalledAt g f x b h → (h ≡ f) × (b ≡ eqb x 32)) →
+    (x : ℕ × Bor (List ℕ)) → r ≡ Some x → (length xs < length (pieces 32 line)) × (x.0 ≡ length xs) × (x.1.now ≡ get_or (pieces 32 line) (length xs) [])
+field_turn {g = g} xs t yields r u next parts line source count rest done closure spaces x e =
+    let fs = pieces 32 line in
+    let turn = YieldsList-turn (fields_of g parts line source count rest done closure spaces) xs t yields r u x e next in
+    let within : length xs < length fs = omega (arith, turn.0, length-enumerate_from 0 fs) in
+    let both = turn.1 ∙ get_or-enumerate_from 0 fs (length xs) (x.0, x.1.now) within in
+    (within, ap (λ p. p.0) both ∙ zero-add (length xs), ap (λ p. p.1) both ∙ get_or_default fs (length xs) x.1.now [] within)
 
--- the field that a turn reads is the i-th of the line
-head_is : (fs gs : List (List ℕ)) (i : ℕ) → drop i fs ≡ gs → get_or gs 0 [] ≡ get_or fs i []
-head_is fs gs i e = ap (λ hs. get_or hs 0 []) (sym e) ∙ get_or-drop i fs 0 [] ∙ ap (λ k. get_or fs k []) (add-zero i)
-
-pub rest_is : (fs gs hs : List (List ℕ)) (i : ℕ) → drop i fs ≡ gs → (1 < length gs → hs ≡ drop 1 gs) → i + 1 < length fs → drop (i + 1) fs ≡ hs
-rest_is fs gs hs i e step h =
-    let more : 1 < length gs = omega (arith, ap length e, length-drop i fs) in
-    sym (drop-drop 1 i fs) ∙ ap (drop 1) e ∙ sym (step more)
-
-pub turn_ok :
-    (fs gs : List (List ℕ)) (out field : List ℕ) (i v : ℕ) (r : Result ℕ Refusal) →
-    i < length fs → i < length out → drop i fs ≡ gs → field ≡ get_or gs 0 [] →
-    r ≡ ok_or (value field) Values → Ok v ≡ in_field r (i + 1) → Reading fs out i → Reading fs (set out i v) (i + 1)
-turn_ok fs gs out field i v r h k left first read ok before =
-    let some = field_ok (value field) (i + 1) v (ok ∙ ap (λ x. in_field x (i + 1)) read) in
-    reading_more fs out i v h k (ap value (sym (first ∙ head_is fs gs i left)) ∙ some) before
-
-pub turn_err :
-    (fs gs : List (List ℕ)) (out field : List ℕ) (i : ℕ) (f : LineFault) (r : Result ℕ Refusal) →
-    i < length fs → drop i fs ≡ gs → field ≡ get_or gs 0 [] →
-    r ≡ ok_or (value field) Values → Err f ≡ in_field r (i + 1) → Reading fs out i → values_from 1 fs ≡ Err f
-turn_err fs gs out field i f r h left first read err before =
-    let none = field_err (value field) (i + 1) f (err ∙ ap (λ x. in_field x (i + 1)) read) in
-    reading_stop fs out i h (ap value (sym (first ∙ head_is fs gs i left)) ∙ none.0) before ∙ ap Err (sym none.1)
+pub fields_end :
+    {F : Type 0} {g : Mut F (Bor ℕ × Unit {0}) Bool} {s : _} {f : F} (xs : List (ℕ × Bor (List ℕ))) (t : _) → Yields (enumerate_steps (split_steps g)) s xs t →
+    (r : Option (ℕ × Bor (List ℕ))) (u : _) → enumerate_steps (split_steps g) t r u → (parts : _) (line : List ℕ) →
+    enumerate_source s ≡ parts → enumerate_count s ≡ 0 → split_rest parts ≡ line → split_done parts ≡ false → split_callee parts ≡ f →
+    ((x : ℕ) (b : Bool) (h : F) → CalledAt g f x b h → (h ≡ f) × (b ≡ eqb x 32)) →
+    r ≡ None → length xs ≡ length (pieces 32 line)
+fields_end {g = g} xs t yields r u next parts line source count rest done closure spaces e =
+    (YieldsList-end (fields_of g parts line source count rest done closure spaces) xs t yields r u e next).1 ∙ length-enumerate_from 0 (pieces 32 line)
 
 -- ---- the count
-
-pub values_count : (n : ℕ) (line : List ℕ) → (length (pieces 32 line) ≡ n → ⊥) → values n line ≡ Err (bad_field 0)
-unfolding values
-values_count n line h = rw (ne_eqb (length (pieces 32 line)) n h)
 
 pub values_read : (n : ℕ) (line : List ℕ) → length (pieces 32 line) ≡ n → values n line ≡ values_from 1 (pieces 32 line)
 unfolding values

@@ -1,23 +1,24 @@
 -- The steps of a load.
-use Rattle.std.proofs.Common.{◌≡◌, ℕ, suc, ◌+◌, ◌-◌, ◌≤◌, List, length, Ok, Err, Result, sym, refl, subst, add-one, arith}
+use Rattle.std.proofs.Common.{◌≡◌, ℕ, suc, ◌+◌, ◌-◌, ◌≤◌, List, length, Ok, Err, Result, sym, refl, subst, add-one, arith, [], replicate}
 use Rattle.mesh.specs.declared.Refusal.{Refusal}
 use Rattle.cost.specs.Costs.{Parts}
 use Rattle.worklist.specs.Orders.{Order}
+use Rattle.mesh.specs.declared.HalfEdge.{HalfEdge}
+use Rattle.mesh.specs.declared.Header.{Header}
 use Rattle.mesh.specs.declared.Vertex.{Vertex}
+use Rattle.mesh.specs.Meshes.{no_vertex, no_half_edge}
 use Rattle.job.proofs.Counts.{add_count}
 use Rattle.job.specs.declared.Call.{Call}
 use Rattle.job.specs.declared.Call.TheVariants.{Add}
 use Rattle.job.specs.declared.Answer.{Answer}
-use Rattle.job.specs.declared.Answer.TheVariants.{Refused, Laid, Added}
-use Rattle.job.specs.Rule.{State, Rule}
+use Rattle.job.specs.declared.Answer.TheVariants.{Refused, Added}
+use Rattle.job.specs.Rule.{State, state, Rule}
 use Rattle.text.specs.declared.Fault.{Fault}
 use Rattle.text.specs.declared.names.Columns.{Columns}
-use Rattle.text.specs.Lines.{in_line}
 use Rattle.text.specs.Pieces.{pieces}
-use Rattle.text.specs.Values.{in_field}
 use Rattle.text.specs.Scripts.{Script, ends, halts, asks, from_vertices}
 use Rattle.text.proofs.Scripts.{vertices_none}
-use Rattle.text.specs.Loads.{fault, line_of, Loads}
+use Rattle.text.specs.Loads.{fault, line_of, Loads, Drapes, blank}
 
 module _ (K : Parts) (Q : Order) (lookahead : ℕ) (s : State) (n : ℕ) where
   -- the same script in other words
@@ -36,10 +37,6 @@ module _ (K : Parts) (Q : Order) (lookahead : ℕ) (s : State) (n : ℕ) where
   refused_call c rest e t r = record { carried = (Refused e, t, r, (refl, refl)) }
 
   -- the next call is taken
-  pub laid_call : (c : Call) (rest : Script) (x : ℕ) (t : State) → Rule K Q lookahead s c (Laid x) t →
-      (r : Result ℕ Fault) (s' : State) → Loads K Q lookahead t (suc n) rest r s' → Loads K Q lookahead s n (asks c rest) r s'
-  laid_call c rest x t rule r s' l = record { carried = (Laid x, t, rule, l.carried) }
-
   pub added_call : (c : Call) (rest : Script) (v : ℕ) (t : State) → Rule K Q lookahead s c (Added v) t →
       (r : Result ℕ Fault) (s' : State) → Loads K Q lookahead t (suc n) rest r s' → Loads K Q lookahead s n (asks c rest) r s'
   added_call c rest v t rule r s' l = record { carried = (Added v, t, rule, l.carried) }
@@ -48,16 +45,6 @@ module _ (K : Parts) (Q : Order) (lookahead : ℕ) (s : State) (n : ℕ) where
 pub same_job : {K K' : Parts} {Q : Order} {la la' : ℕ} {s t : State} {c : Call} {a : Answer} → K' ≡ K → la' ≡ la → Rule K' Q la' s c a t → Rule K Q la s c a t
 same_job {K} {K'} {Q} {la} {la'} {s} {t} {c} {a} p q r =
     subst (λ (n : ℕ). Rule K Q n s c a t) q (subst (λ (k : Parts). Rule k Q la' s c a t) p r)
-
--- ---- where a call's refusal got its place
-
-pub place_err : {A : Type 0} (r : Result A Refusal) (line : ℕ) (f : Fault) → Err f ≡ in_line (in_field r 0) line → (e : Refusal) × (r ≡ Err e) × (f ≡ fault line 0 e)
-place_err (Ok x) line f e = let d : ◌≡◌ {A = ℕ} 0 1 = cc in absurd (omega arith)
-place_err (Err x) line f e = (x, refl, cc)
-
-pub place_ok : {A : Type 0} (r : Result A Refusal) (line : ℕ) (x : A) → Ok x ≡ in_line (in_field r 0) line → r ≡ Ok x
-place_ok (Ok y) line x e = cc
-place_ok (Err y) line x e = let d : ◌≡◌ {A = ℕ} 0 1 = cc in absurd (omega arith)
 
 -- ---- the lines after the third, of which some are done
 
@@ -114,3 +101,14 @@ module _ (K : Parts) (Q : Order) (lookahead : ℕ) (s₀ : State) (columns : Col
             counted = omega (arith, k.0, mid.counted);
             few = omega (arith, k.1, mid.counted);
           }
+
+-- ---- blank memory
+
+pub from_blank :
+    (K : Parts) (Q : Order) (lookahead : ℕ) (text : List ℕ) {h : Header} {vs : List Vertex} {hs : List HalfEdge} {ws out after : List ℕ} {a : Result ℕ Refusal} {s' : State} →
+    (h.width ≡ 0) × ((h.depth ≡ 0) × (h.count ≡ 0)) → vs ≡ replicate 1024 no_vertex → hs ≡ replicate 6126 no_half_edge → ws ≡ [] → out ≡ replicate 32768 0 →
+    Drapes K Q lookahead (state h vs hs ws) text out a after s' → Drapes K Q lookahead blank text (replicate 32768 0) a after s'
+from_blank K Q lookahead text {h} {vs} {hs} {ws} {out} {after} {a} {s'} z v e w o d =
+    let header : h ≡ record { width = 0; depth = 0; count = 0 } = λ i. record { width = z.0 i; depth = z.1.0 i; count = z.1.1 i } in
+    let s : state h vs hs ws ≡ blank = cc in
+    subst (λ (t : State). Drapes K Q lookahead t text (replicate 32768 0) a after s') s (subst (λ (bs : List ℕ). Drapes K Q lookahead (state h vs hs ws) text bs a after s') o d)

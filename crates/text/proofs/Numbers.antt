@@ -1,7 +1,6 @@
 -- Facts about the number in a field.
-use Rattle.std.proofs.Common.{◌≡◌, ℕ, ◌+◌, ◌-◌, ◌*◌, ◌^◌, ◌<◌, ◌≤◌, Bool, true, false, cond, ◌&&◌, ◌⊎◌, List, [], ◌∷◌, length, get_or, take, drop, Some, None, Ok, Err, Result, refl, ap, ◌∙◌, inl, inr, zero-add, arith, pow-add}
+use Rattle.std.proofs.Common.{◌≡◌, ℕ, ◌-◌, ◌<◌, ◌≤◌, Bool, true, false, cond, ◌&&◌, ◌⊎◌, List, [], ◌∷◌, length, get_or, take, drop, Some, None, Ok, Err, Result, refl, ap, ◌∙◌, inl, inr, zero-add, arith}
 use Rattle.std.specs.Option.{ok_or}
-use Rattle.std.proofs.lemmas.List.{at_drop_more}
 use Rattle.std.proofs.lemmas.Slice.{first_rest}
 use Rattle.std.proofs.lemmas.Bool.Decides.{nat_tests}
 use Rattle.mesh.specs.declared.Refusal.{Refusal}
@@ -16,19 +15,6 @@ cond_ok false n d e = let z : ◌≡◌ {A = ℕ} 0 1 = cc in absurd (omega arit
 pub cond_err : (b : Bool) (n : ℕ) (f : Refusal) → ◌≡◌ {A = Result ℕ Refusal} (Err f) (cond b (Ok n) (Err Values)) → (b ≡ false) × (f ≡ Values)
 cond_err true n f e = let z : ◌≡◌ {A = ℕ} 0 1 = cc in absurd (omega arith)
 cond_err false n f e = (refl, cc)
-
-pub digit_small : (b : ℕ) → is_digit b ≡ true → b - 48 ≤ 9
-digit_small b e = grind (arith, nat_tests)
-
-pub one_more_digit : (n i b : ℕ) → n < 10 ^ (i + 1) → is_digit b ≡ true → 10 * n + (b - 48) < 10 ^ (i + 1 + 1)
-one_more_digit n i b h e = rw (pow-add 10 (i + 1) 1) (omega (arith, digit_small b e))
-
--- one digit on, and at a byte that is none
-pub digits_more : (xs : List ℕ) (i : ℕ) → i < length xs → is_digit (get_or xs i 0) ≡ true → all_digits (drop i xs) ≡ all_digits (drop (i + 1) xs)
-digits_more xs i h e = at_drop_more all_digits xs i 0 h ∙ simp e
-
-pub digits_stop : (xs : List ℕ) (i : ℕ) → i < length xs → is_digit (get_or xs i 0) ≡ false → all_digits (drop i xs) ≡ false
-digits_stop xs i h e = at_drop_more all_digits xs i 0 h ∙ simp e
 
 -- when a field is refused before its digits are read
 pub value_empty : value [] ≡ None

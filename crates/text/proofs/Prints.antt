@@ -1,13 +1,17 @@
 -- Facts about prints into a buffer.
-use Rattle.std.proofs.Common.{◌≡◌, ℕ, zero, suc, ◌+◌, ◌-◌, ◌*◌, ◌<◌, ◌≤◌, List, [], ◌∷◌, ◌++◌, length, Ok, Err, codes, sym, refl, ap, ◌∙◌, add-zero, add-suc, add-one, arith}
+use Rattle.std.proofs.Common.{◌≡◌, ℕ, zero, suc, ◌+◌, ◌-◌, ◌*◌, ◌<◌, ◌≤◌, List, [], ◌∷◌, ◌++◌, length, get_or, Ok, Err, codes, decimal, sym, refl, ap, ◌∙◌, add-zero, add-suc, add-one, arith}
+use Rattle.std.proofs.lemmas.Fmt.{length-decimal-le}
 use Rattle.std.proofs.lemmas.List.{length-append}
+use Rattle.text.proofs.Figures.{length_line}
 use Rattle.std.proofs.lemmas.Bool.{le-leb, lt-leb}
 use Rattle.mesh.specs.declared.Refusal.TheVariants.{Buffer}
-use Rattle.mesh.specs.Meshes.{Mesh, half, faces}
+use Rattle.arith.specs.Ranges.{sum}
+use Rattle.arith.proofs.Rising.{sum_bounded}
+use Rattle.mesh.specs.Meshes.{Mesh, faces, half}
+use Rattle.mesh.specs.Sound.{Placed}
 use Rattle.mesh.specs.Refusals.{number}
 use Rattle.text.specs.declared.Fault.{Fault}
-use Rattle.text.proofs.Overs.{Put}
-use Rattle.text.specs.Printing.{number_line, face_line, face_lines, faces_text, fault_text, over, printed, buffer_after}
+use Rattle.text.specs.Printing.{number_line, face_origins, face_line, face_lines, faces_text, fault_text, over, Put, printed, buffer_after}
 
 pub printed_fits : (text buffer : List ℕ) → length text ≤ length buffer → printed text buffer ≡ Ok (length text)
 unfolding printed
@@ -24,6 +28,8 @@ after_fits text buffer h = rw (le-leb (length text) (length buffer) h)
 pub after_short : (text buffer : List ℕ) → length buffer < length text → buffer_after text buffer ≡ buffer
 unfolding buffer_after
 after_short text buffer h = rw (lt-leb (length text) (length buffer) h)
+
+pub ruleset prints = (printed_fits, printed_short, after_fits, after_short)
 
 -- a text that was written from 0 on
 pub answer_put : {buffer text ys : List ℕ} {n : ℕ} (whole : List ℕ) → whole ≡ text → length whole ≤ length buffer → Put buffer 0 text ys n → Ok n ≡ printed whole buffer
@@ -59,9 +65,8 @@ length_faces m = ap length (faces_parts m) ∙ omega arith
 pub face_lines_more : (m : Mesh) (f : ℕ) → face_lines m (f + 1) ≡ face_lines m f ++ face_line m f
 face_lines_more m f = ap (face_lines m) (add-one f)
 
-pub face_line_is :
-    (m : Mesh) (f a b c : ℕ) → a ≡ (half m (3 * f)).origin → b ≡ (half m (3 * f + 1)).origin → c ≡ (half m (3 * f + 2)).origin → number_line a b c ≡ face_line m f
-face_line_is m f a b c p q r = rw (p, q, r)
+pub face_line_is : (m : Mesh) (f : ℕ) (os : List ℕ) → os ≡ face_origins m f → number_line (get_or os 0 0) (get_or os 1 0) (get_or os 2 0) ≡ face_line m f
+face_line_is m f os e = ap (λ xs. number_line (get_or xs 0 0) (get_or xs 1 0) (get_or xs 2 0)) e
 
 -- the lines of fewer faces are shorter
 face_lines_grow : (m : Mesh) (f k : ℕ) → length (face_lines m f) ≤ length (face_lines m (f + k))
@@ -71,3 +76,27 @@ face_lines_grow m f (suc k) =
 
 pub face_lines_below : (m : Mesh) (f n : ℕ) → f ≤ n → length (face_lines m f) ≤ length (face_lines m n)
 face_lines_below m f n h = let e : f + (n - f) ≡ n = omega arith in rw e at (face_lines_grow m f (n - f))
+
+-- the lines of the faces as a sum
+pub lines_sum : (m : Mesh) (n : ℕ) → length (face_lines m n) ≡ sum (λ f. length (face_line m f)) n
+lines_sum m zero = refl
+lines_sum m (suc n) = length-append (face_lines m n) (face_line m n) ∙ ap (λ k. k + length (face_line m n)) (lines_sum m n)
+
+-- a number below 1,024 has at most four digits
+short_number : (n : ℕ) → n < 1024 → length (decimal n) ≤ 4
+short_number n h = length-decimal-le 4 n (omega arith) (omega arith) (omega arith)
+
+pub lines_bounded : (m : Mesh) → Placed m → sum (λ f. length (face_line m f)) (faces m) ≤ 2042 * 15
+lines_bounded m p =
+    let line : (f : ℕ) → f < faces m → length (face_line m f) ≤ 15 = λ f l.
+    let a = p.origins (3 * f) (omega arith) in
+    let b = p.origins (3 * f + 1) (omega arith) in
+    let c = p.origins (3 * f + 2) (omega arith) in
+    omega (
+      arith,
+      length_line (half m (3 * f)).origin (half m (3 * f + 1)).origin (half m (3 * f + 2)).origin,
+      short_number (half m (3 * f)).origin (omega (arith, p.roomy.few)),
+      short_number (half m (3 * f + 1)).origin (omega (arith, p.roomy.few)),
+      short_number (half m (3 * f + 2)).origin (omega (arith, p.roomy.few)),
+    ) in
+    omega (arith, sum_bounded (λ f. length (face_line m f)) 15 (faces m) line, p.roomy.few)

@@ -1,10 +1,9 @@
 -- What the lines of a file say.
-use Rattle.std.specs.Prelude.{ℕ, cond, List, [], ◌∷◌, Some, None, Ok, Err, codes, Option, Result, slice_index}
+use Rattle.std.specs.Prelude.{ℕ, cond, List, [], ◌∷◌, Some, None, codes, Option, Result, slice_index}
 use Rattle.std.specs.Result.{result_map_both}
 use Rattle.std.specs.Str.{bytes_eq}
 use Rattle.mesh.specs.declared.Plan.{Plan}
 use Rattle.mesh.specs.declared.Vertex.{Vertex}
-use Rattle.text.specs.declared.Fault.{Fault}
 use Rattle.text.specs.declared.LineFault.{LineFault}
 use Rattle.text.specs.declared.names.Columns.{Columns}
 use Rattle.text.specs.declared.names.Columns.TheVariants.{EastNorthHeight, EastHeightNorth, NorthEastHeight, NorthHeightEast, HeightEastNorth, HeightNorthEast}
@@ -60,8 +59,3 @@ plan line = result_map_both plan_of (λ fault. fault) (values 6 line)
 -- each line after the third
 unfoldable pub vertex : Columns → List ℕ → Result Vertex LineFault
 vertex order line = result_map_both (λ vs. vertex_of order (slice_index vs 0) (slice_index vs 1) (slice_index vs 2)) (λ fault. fault) (values 3 line)
-
--- a faulty line with its number
-abbrev pub in_line : {A : Type 0} → Result A LineFault → ℕ → Result A Fault
-in_line (Ok x) line = Ok x
-in_line (Err fault) line = Err (record { line = line; field = fault.field; refusal = fault.refusal })

@@ -1,14 +1,15 @@
 -- What a load answers and leaves: the calls of the script, one after the other, up to the first refusal.
-use Rattle.std.specs.Prelude.{◌≡◌, ℕ, zero, suc, ◌+◌, ◌-◌, List, [], ◌∷◌, Some, None, Ok, Err, Option, Result}
+use Rattle.std.specs.Prelude.{◌≡◌, ℕ, zero, suc, ◌+◌, ◌-◌, List, [], ◌∷◌, take, replicate, Some, None, Ok, Err, Option, Result}
+use Rattle.std.specs.Result.{result_map_both}
 use Rattle.mesh.specs.declared.Refusal.{Refusal}
 use Rattle.cost.specs.Costs.{Parts}
 use Rattle.worklist.specs.Orders.{Order}
 use Rattle.job.specs.declared.Call.{Call}
 use Rattle.job.specs.declared.Answer.{Answer}
 use Rattle.job.specs.declared.Answer.TheVariants.{Refused, Laid, Added, Flipped, Pinned, Unpinned}
-use Rattle.job.specs.Rule.{State, Rule}
+use Rattle.job.specs.Rule.{State, state, Rule}
 use Rattle.text.specs.declared.Fault.{Fault}
-use Rattle.mesh.specs.Meshes.{Mesh}
+use Rattle.mesh.specs.Meshes.{Mesh, no_vertex, no_half_edge}
 use Rattle.text.specs.Printing.{fault_text, printed, buffer_after, reported, buffer_reported}
 use Rattle.text.specs.Scripts.{Script, script}
 
@@ -53,3 +54,15 @@ pub record Drapes (K : Parts) (Q : Order) (lookahead : ℕ) (s : State) (text be
   pub answer : Result ℕ Fault
   pub loads : Loads K Q lookahead s 0 (script text) answer s'
   pub told : Told answer s'.mesh before a after
+
+-- memory with nothing in it, and nothing that waits
+abbrev pub blank : State
+blank = state (record { width = 0; depth = 0; count = 0 }) (replicate 1024 no_vertex) (replicate 6126 no_half_edge) []
+
+-- what is told of a spot file that is loaded from blank memory: the text, or why there is none
+pub record Draped (K : Parts) (Q : Order) (lookahead : ℕ) (text : List ℕ) (told : Result (List ℕ) Refusal) : Type 0 where
+  pub answer : Result ℕ Refusal
+  pub after : List ℕ
+  pub left : State
+  pub drapes : Drapes K Q lookahead blank text (replicate 32768 0) answer after left
+  pub is : told ≡ result_map_both (λ n. take n after) (λ e. e) answer

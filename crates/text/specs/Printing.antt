@@ -1,5 +1,5 @@
 -- Texts that are put into a lent buffer.
-use Rattle.std.specs.Prelude.{ℕ, zero, suc, ◌+◌, ◌*◌, cond, List, [], ◌∷◌, ◌++◌, length, take, drop, Ok, Err, codes, decimal, Result, nat_le}
+use Rattle.std.specs.Prelude.{◌≡◌, ℕ, zero, suc, ◌+◌, ◌*◌, cond, List, [], ◌∷◌, ◌++◌, length, take, drop, Ok, Err, codes, decimal, Result, nat_le}
 use Rattle.mesh.specs.Meshes.{Mesh, half, faces}
 use Rattle.mesh.specs.Refusals.{number}
 use Rattle.mesh.specs.Sound.{is_sound}
@@ -14,6 +14,10 @@ abbrev pub number_line : ℕ → ℕ → ℕ → List ℕ
 number_line a b c = decimal a ++ (32 ∷ (decimal b ++ (32 ∷ (decimal c ++ (10 ∷ [])))))
 
 -- the origins of the half-edges of face f
+abbrev pub face_origins : Mesh → ℕ → List ℕ
+face_origins m f = (half m (3 * f)).origin ∷ (half m (3 * f + 1)).origin ∷ (half m (3 * f + 2)).origin ∷ []
+
+-- the line of face f
 abbrev pub face_line : Mesh → ℕ → List ℕ
 face_line m f = number_line (half m (3 * f)).origin (half m (3 * f + 1)).origin (half m (3 * f + 2)).origin
 
@@ -35,6 +39,12 @@ fault_text f = codes "line field number" ++ (10 ∷ number_line f.line f.field (
 -- what a buffer holds once a text is written over it from `at` on
 abbrev pub over : List ℕ → ℕ → List ℕ → List ℕ
 over buffer at text = take at buffer ++ (text ++ drop (at + length text) buffer)
+
+-- from xs to ys a text was written over what stood from `at` to n
+pub record Put (xs : List ℕ) (at : ℕ) (text : List ℕ) (ys : List ℕ) (n : ℕ) : Type 0 where
+  pub buffer : ys ≡ over xs at text
+  pub end : n ≡ at + length text
+  pub kept : length ys ≡ length xs
 
 -- the answer of a print: how long the text is, or that it does not fit
 unfoldable pub printed : List ℕ → List ℕ → Result ℕ Refusal

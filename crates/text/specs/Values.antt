@@ -1,6 +1,5 @@
 -- The numbers of a value line.
 use Rattle.std.specs.Prelude.{ℕ, suc, ◌+◌, ◌-◌, ◌*◌, Bool, true, cond, not, ◌&&◌, ◌||◌, List, [], ◌∷◌, length, Some, None, Ok, Err, Option, Result, ◌==◌, nat_le, slice_index}
-use Rattle.mesh.specs.declared.Refusal.{Refusal}
 use Rattle.mesh.specs.declared.Refusal.TheVariants.{Values}
 use Rattle.text.specs.declared.LineFault.{LineFault}
 use Rattle.text.specs.Pieces.{pieces}
@@ -44,13 +43,3 @@ values_from field (f ∷ fs) = value_first field (value f) (values_from (suc fie
 -- the values of a line of n fields; a wrong count is a fault of the whole line
 unfoldable pub values : ℕ → List ℕ → Result (List ℕ) LineFault
 values n line = cond (length (pieces 32 line) == n) (values_from 1 (pieces 32 line)) (Err (bad_field 0))
-
--- a refusal with its field
-abbrev pub in_field : {A : Type 0} → Result A Refusal → ℕ → Result A LineFault
-in_field (Ok v) field = Ok v
-in_field (Err refusal) field = Err (record { field = field; refusal = refusal })
-
--- the values that a reader left, if it had no fault
-abbrev pub read_into : Result (Unit {0}) LineFault → List ℕ → Result (List ℕ) LineFault
-read_into (Ok _) vs = Ok vs
-read_into (Err fault) vs = Err fault

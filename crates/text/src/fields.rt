@@ -1,20 +1,20 @@
-// A line cut into fields, and the numbers in them.
-ghost use Rattle.std.specs.Prelude.{◌≡◌, ℕ, ◌+◌, ◌-◌, ◌<◌, ◌≤◌, [], length, drop, if◌then◌else◌, Ok, Err, slice_index_or};
+// A line cut into fields, and the numbers in them. `as` stands where Rust has no `From`.
+ghost use Rattle.std.specs.Prelude.{◌≡◌, ℕ, ◌+◌, ◌-◌, ◌<◌, ◌≤◌, length, if◌then◌else◌, Ok, Err, MatchResult};
 ghost use Rattle.std.specs.Option.{ok_or};
 ghost use Rattle.mesh.specs.declared.Refusal.TheVariants.{Values};
 ghost use Rattle.text.specs.Pieces.{pieces};
-ghost use Rattle.text.specs.Values.{is_digit, all_digits, read_on, value, values, in_field, read_into};
+ghost use Rattle.text.specs.Values.{is_digit, all_digits, read_on, value, values_from, values};
 
 use crate::LineFault;
-use crate::pieces::{cut, piece_count};
+use crate::pieces::piece_count;
 use mesh::Refusal;
 
-// The number that a byte writes.
+// The number that a byte writes. A pattern: the library's `to_digit` is one of characters.
 fn digit(b: u8) -> Result<u32, Refusal>
     ensures { result ≡ (if is_digit b then Ok (b - 48) else Err Values) }
 {
     match b {
-        b'0'..=b'9' => Ok((b - b'0') as u32),
+        b'0'..=b'9' => Ok(u32::from(b - b'0')),
         _ => Err(Refusal::Values),
     }
 }
@@ -44,43 +44,30 @@ pub fn value(field: &[u8]) -> Result<u32, Refusal>
     read_on(digit(*first)?, rest)
 }
 
-// The field of a refusal is added.
-pub fn in_field<T>(r: Result<T, Refusal>, field: u32) -> Result<T, LineFault>
-    ensures { result ≡ in_field r field }
+// The values of the fields of a line, which are as many as the places of `out`. They are written there and not answered
+// as an array, since no loop over an iterator that borrows is proved in a function with a const parameter.
+fn read_fields(line: &[u8], out: &mut [u32]) -> Result<(), LineFault>
+    requires few { length out.old ≤ 6 }
+    requires count { length (pieces 32 line.now) ≡ length out.old }
+    ensures { MatchResult result (λ _. values_from 1 (pieces 32 line.now) ≡ Ok out.new) (λ fault. values_from 1 (pieces 32 line.now) ≡ Err fault) }
 {
-    match r {
-        Ok(x) => Ok(x),
-        Err(refusal) => Err(LineFault { field, refusal }),
-    }
-}
-
-// The first field of a line, and what follows it.
-fn first_field(line: &[u8]) -> (&[u8], &[u8])
-    ensures first { result.0.now ≡ slice_index_or (pieces 32 line.now) 0 [] }
-    ensures rest { 1 < length (pieces 32 line.now) → pieces 32 result.1.now ≡ drop 1 (pieces 32 line.now) }
-{
-    match cut(line, b' ') {
-        Some(parts) => parts,
-        None => (line, b""),
-    }
-}
-
-// Reads the values of a line that has one for each place of `out`.
-pub fn values(line: &[u8], out: &mut [u32]) -> Result<(), LineFault>
-    requires { length out.old ≤ 6 }
-    ensures { read_into result out.new ≡ values (length out.old) line.now }
-{
-    if piece_count(line, b' ') != out.len() {
-        return Err(LineFault {
-            field: 0,
-            refusal: Refusal::Values,
-        });
-    }
-    let mut rest = line;
-    for i in 0..out.len() {
-        let (field, after) = first_field(rest);
-        out[i] = in_field(value(field), i as u32 + 1)?;
-        rest = after;
+    for (i, bytes) in line.split(|b| *b == b' ').enumerate() {
+        let field = i as u32 + 1;
+        out[i] = value(bytes).map_err(|refusal| LineFault { field, refusal })?;
     }
     Ok(())
+}
+
+// The values of a line of N fields.
+#[tactic(auto, unfolding(crate::specs::Values::values))]
+pub fn values<const N: usize>(line: &[u8]) -> Result<[u32; N], LineFault>
+    requires { N ≤ 6 }
+    ensures { result ≡ values N line.now }
+{
+    if piece_count(line, b' ') != N {
+        return Err(LineFault::of_line(Refusal::Values));
+    }
+    let mut out = [0; N];
+    read_fields(line, &mut out)?;
+    Ok(out)
 }

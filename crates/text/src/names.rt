@@ -1,10 +1,9 @@
 // The lines of names.
 ghost use Rattle.std.specs.Prelude.{◌≡◌};
-ghost use Rattle.std.specs.Str.{bytes_eq};
-ghost use Rattle.text.specs.Lines.{columns};
+ghost use Rattle.text.specs.Lines.{columns, vertex_names};
 
 // In which order the three numbers of a vertex stand on a line.
-#[derive(Clone, Copy)]
+#[derive(Clone, Copy, PartialEq, Eq, Debug)]
 pub enum Columns {
     EastNorthHeight,
     EastHeightNorth,
@@ -14,30 +13,36 @@ pub enum Columns {
     HeightNorthEast,
 }
 
-// Whether a line is exactly these names.
-pub fn is_named(line: &[u8], names: &[u8]) -> bool
-    ensures { result ≡ bytes_eq line.now names.now }
-{
-    line == names
+const ALL_COLUMNS: [Columns; 6] = [
+    Columns::EastNorthHeight,
+    Columns::EastHeightNorth,
+    Columns::NorthEastHeight,
+    Columns::NorthHeightEast,
+    Columns::HeightEastNorth,
+    Columns::HeightNorthEast,
+];
+
+impl Columns {
+    // Line 3, where the columns are in this order.
+    fn names(self) -> &'static [u8]
+        ensures { result.now ≡ vertex_names self }
+    {
+        match self {
+            Columns::EastNorthHeight => b"east north height",
+            Columns::EastHeightNorth => b"east height north",
+            Columns::NorthEastHeight => b"north east height",
+            Columns::NorthHeightEast => b"north height east",
+            Columns::HeightEastNorth => b"height east north",
+            Columns::HeightNorthEast => b"height north east",
+        }
+    }
 }
 
 // The order of the columns that a line names.
 pub fn named_columns(line: &[u8]) -> Option<Columns>
     ensures { result ≡ columns line.now }
 {
-    if is_named(line, b"east north height") {
-        Some(Columns::EastNorthHeight)
-    } else if is_named(line, b"east height north") {
-        Some(Columns::EastHeightNorth)
-    } else if is_named(line, b"north east height") {
-        Some(Columns::NorthEastHeight)
-    } else if is_named(line, b"north height east") {
-        Some(Columns::NorthHeightEast)
-    } else if is_named(line, b"height east north") {
-        Some(Columns::HeightEastNorth)
-    } else if is_named(line, b"height north east") {
-        Some(Columns::HeightNorthEast)
-    } else {
-        None
-    }
+    ALL_COLUMNS
+        .into_iter()
+        .find(|columns| line == columns.names())
 }

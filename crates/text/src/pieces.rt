@@ -6,23 +6,13 @@ ghost use Rattle.text.specs.Pieces.{pieces, Lacks};
 pub fn cut(bytes: &[u8], separator: u8) -> Option<(&[u8], &[u8])>
     ensures { MatchOption result (Lacks separator bytes.now) (λ p. Lacks separator p.0.now × (bytes.now ≡ p.0.now ++ (separator ∷ p.1.now))) }
 {
-    for i in 0..bytes.len() {
-        if bytes[i] == separator {
-            return Some((&bytes[0..i], &bytes[i + 1..]));
-        }
-    }
-    None
+    let at = bytes.iter().position(|b| *b == separator)?;
+    Some((&bytes[..at], &bytes[at + 1..]))
 }
 
 // How many pieces there are: one more than separators.
 pub fn piece_count(bytes: &[u8], separator: u8) -> usize
     ensures { result ≡ length (pieces separator bytes.now) }
 {
-    let mut n = 1;
-    for b in bytes {
-        if *b == separator {
-            n += 1;
-        }
-    }
-    n
+    bytes.iter().filter(|b| **b == separator).count() + 1
 }

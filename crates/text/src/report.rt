@@ -1,11 +1,11 @@
-// What a caller is told of a file and of a mesh.
+// What a caller is told of a file and of a mesh. The buffer is the caller's, so that a length is answered and no `Vec`.
 ghost use Rattle.std.specs.Prelude.{◌≡◌, ◌+◌, ◌*◌, ◌<◌, ◌≤◌, length};
-ghost use Rattle.mesh.specs.Meshes.{seen, half};
-ghost use Rattle.mesh.specs.Sound.{Roomy};
-ghost use Rattle.text.specs.Printing.{faces_text, fault_text, over, printed, buffer_after, reported, buffer_reported};
+ghost use Rattle.mesh.specs.Meshes.{seen, faces as face_count};
+ghost use Rattle.text.specs.Printing.{face_origins, face_line, faces_text, fault_text, over, printed, buffer_after, reported, buffer_reported};
 
 use crate::Fault;
-use crate::printing::{line_length, put_bytes, put_line};
+use crate::printing::{Printer, line_length};
+use mesh::views::{PlacedMesh, RoomyMesh};
 use mesh::{MeshRef, Refusal};
 
 // Writes where and why a file was refused.
@@ -17,63 +17,68 @@ pub fn fault_line(fault: Fault, buffer: &mut [u8]) -> Result<usize, Refusal>
     if buffer.len() < 18 + line_length(fault.line, fault.field, number) {
         return Err(Refusal::Buffer);
     }
-    let at = put_bytes(buffer, 0, b"line field number\n");
-    Ok(put_line(buffer, at, fault.line, fault.field, number))
+    let mut printer = Printer { buffer, at: 0 };
+    printer.put(b"line field number\n");
+    printer.put_line(fault.line, fault.field, number);
+    Ok(printer.at)
 }
 
 // The origins of the half-edges of a face.
-fn origins(mesh: MeshRef, face: usize) -> (u32, u32, u32)
-    requires { 3 * face + 2 < length (seen mesh).half_edges }
-    ensures first { result.0 ≡ (half (seen mesh.entry) (3 * face)).origin }
-    ensures second { result.1 ≡ (half (seen mesh.entry) (3 * face + 1)).origin }
-    ensures third { result.2 ≡ (half (seen mesh.entry) (3 * face + 2)).origin }
+fn origins(roomy: RoomyMesh, face: usize) -> [u32; 3]
+    requires { face < face_count (seen roomy.mesh) }
+    ensures { result ≡ face_origins (seen roomy.entry.mesh) face }
 {
+    let half_edges = roomy.mesh.half_edges;
     let s = 3 * face;
-    (
-        mesh.half_edges[s].origin as u32,
-        mesh.half_edges[s + 1].origin as u32,
-        mesh.half_edges[s + 2].origin as u32,
-    )
+    [
+        u32::from(half_edges[s].origin),
+        u32::from(half_edges[s + 1].origin),
+        u32::from(half_edges[s + 2].origin),
+    ]
 }
 
-// How long the report of a mesh is.
-fn faces_length(mesh: MeshRef) -> usize
-    requires roomy { Roomy (seen mesh) }
-    ensures { result ≡ length (faces_text (seen mesh.entry)) }
+// How long the line of a face is.
+fn face_length(roomy: RoomyMesh, face: usize) -> usize
+    requires { face < face_count (seen roomy.mesh) }
+    ensures { result ≡ length (face_line (seen roomy.entry.mesh) face) }
 {
-    let mut length = 6;
-    for f in 0..mesh.faces() {
-        let (a, b, c) = origins(mesh, f);
-        length += line_length(a, b, c);
-    }
-    length
+    let [a, b, c] = origins(roomy, face);
+    line_length(a, b, c)
 }
 
-// Writes the report of a mesh, and answers where it ends.
-fn write_faces(mesh: MeshRef, buffer: &mut [u8]) -> usize
-    requires roomy { Roomy (seen mesh) }
-    requires room { length (faces_text (seen mesh)) ≤ length buffer.old }
-    ensures end { result ≡ length (faces_text (seen mesh.entry)) }
-    ensures buffer { buffer.new ≡ over buffer.old 0 (faces_text (seen mesh.entry)) }
+// How long the report of a mesh is. Origins are below 1,024, so that the sum fits.
+fn faces_length(placed: PlacedMesh) -> usize
+    ensures { result ≡ length (faces_text (seen placed.entry.mesh)) }
 {
-    let mut at = put_bytes(buffer, 0, b"a b c\n");
-    for f in 0..mesh.faces() {
-        let (a, b, c) = origins(mesh, f);
-        at = put_line(buffer, at, a, b, c);
-    }
-    at
+    let roomy = placed.roomy();
+    let lines: usize = (0..roomy.faces()).map(|f| face_length(roomy, f)).sum();
+    6 + lines
 }
 
-// Writes the report of a mesh.
+// Writes the report of a mesh, and answers where it ends. A `for` over the numbers of the faces: each line is written, and nothing comes of it to be collected or summed.
+fn write_faces(roomy: RoomyMesh, buffer: &mut [u8]) -> usize
+    requires { length (faces_text (seen roomy.mesh)) ≤ length buffer.old }
+    ensures end { result ≡ length (faces_text (seen roomy.entry.mesh)) }
+    ensures buffer { buffer.new ≡ over buffer.old 0 (faces_text (seen roomy.entry.mesh)) }
+{
+    let mut printer = Printer { buffer, at: 0 };
+    printer.put(b"a b c\n");
+    for f in 0..roomy.faces() {
+        let [a, b, c] = origins(roomy, f);
+        printer.put_line(a, b, c);
+    }
+    printer.at
+}
+
+// Writes the report of a mesh, and answers its length.
+#[tactic(auto, using(crate::proofs::Prints::prints), unfolding(crate::specs::Printing::reported, crate::specs::Printing::buffer_reported))]
 pub fn report(mesh: MeshRef, buffer: &mut [u8]) -> Result<usize, Refusal>
     ensures answer { result ≡ reported (seen mesh.entry) buffer.old }
     ensures buffer { buffer.new ≡ buffer_reported (seen mesh.entry) buffer.old }
 {
-    if !mesh.is_sound() {
-        return Err(Refusal::Unsound);
-    }
-    if buffer.len() < faces_length(mesh) {
+    let placed = mesh.sound()?.placed();
+    if buffer.len() < faces_length(placed) {
         return Err(Refusal::Buffer);
     }
-    Ok(write_faces(mesh, buffer))
+    Ok(write_faces(placed.roomy(), buffer))
 }

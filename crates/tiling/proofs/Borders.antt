@@ -1,6 +1,6 @@
 -- The half-edges without a twin run round the rectangle: one from each corner to the next.
-use Rattle.std.proofs.Common.{◌≡◌, ℕ, ◌+◌, ◌<◌, ◌≤◌, Bool, true, false, cond, ◌&&◌, ◌||◌, eqb, ◌⊎◌, sym, ap, ◌∙◌, inl, inr, ⊎_elim, arith}
-use Rattle.std.proofs.lemmas.Bool.{and_parts, or_cases, not-false, eqb-true, cases_eq}
+use Rattle.std.proofs.Common.{◌≡◌, ℕ, ◌+◌, ◌<◌, ◌≤◌, false, cond, eqb, ◌⊎◌, sym, ap, ◌∙◌, inl, inr, ⊎_elim, arith}
+use Rattle.std.proofs.lemmas.Bool.{not-false, eqb-true, cases_eq}
 use Rattle.mesh.specs.Meshes.{Mesh, next, used, half, vertex, has_twin}
 use Rattle.mesh.specs.Sound.{Sound, along_border}
 use Rattle.mesh.proofs.Decide.{T_true}

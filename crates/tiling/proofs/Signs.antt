@@ -1,5 +1,5 @@
 -- Signs of integers and of their products.
-use Rattle.std.proofs.Common.{◌≡◌, zero, suc, Bool, true, false, ◌⊎◌, [], ◌∷◌, ℤ, pos, negsuc, ◌-ℤ◌, ◌*ℤ◌, ◌≤ℤ◌, ◌<ℤ◌, refl, inl, inr, arith}
+use Rattle.std.proofs.Common.{◌≡◌, Bool, true, false, ◌⊎◌, [], ◌∷◌, ℤ, pos, negsuc, ◌-ℤ◌, ◌*ℤ◌, ◌≤ℤ◌, ◌<ℤ◌, refl, inl, inr, arith}
 use lib.IntN.{*ℤ_comm}
 use lib.Signed.{lt_z}
 use borrow.Author.Differences.{ints, same_in, same_out, Apart-out, sum_is_lem, neg_is, lt_out, le_out, below_in, at_most_in, lt-true, lt-false, le-true, le-false, true_is_lt, false_is_lt, true_is_le, false_is_le}

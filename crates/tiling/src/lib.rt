@@ -14,11 +14,5 @@ pub fn locate(mesh: MeshRef, w: Point) -> Result<usize, Refusal>
     ensures answer { result ≡ located (seen mesh.entry) w }
     ensures found { Sound (seen mesh.entry) → OnGround (seen mesh.entry) w → is_ok result ≡ true }
 {
-    if !mesh.is_sound() {
-        return Err(Refusal::Unsound);
-    }
-    match mesh.owner(w) {
-        Some(f) => Ok(f),
-        None => Err(Refusal::Unowned),
-    }
+    mesh.sound()?.placed().owner(w).ok_or(Refusal::Unowned)
 }

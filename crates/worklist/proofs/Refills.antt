@@ -1,10 +1,11 @@
 -- What a caller needs who empties a lawful worklist and puts numbers in, one after the other.
 use Rattle.std.proofs.Common.{◌≡◌, ℕ, zero, suc, ◌+◌, ◌<◌, ◌≤◌, Bool, true, false, cond, ◌||◌, eqb, List, [], ◌∷◌, ◌++◌, length, sym, refl, ap, ◌∙◌, subst, le_refl, arith}
+use Rattle.std.proofs.Math.Bool.{or_assoc, or-false}
 use Rattle.arith.proofs.Rising.{select_yes, select_no}
 use Rattle.arith.specs.Ranges.{select}
-use Rattle.worklist.specs.Orders.{Order, LawfulOrder, Put, Puts, Refilled, among, fifo_lawful}
+use Rattle.worklist.specs.Orders.{limit, Order, LawfulOrder, Put, Puts, Refilled, among}
+use Rattle.worklist.specs.Lawful.{fifo_lawful}
 use Rattle.worklist.specs.Insertions.{or_swap, among_inserted, among_inserted_other, length_inserted}
-use Rattle.worklist.proofs.Tables.{or_none, or_regroup}
 
 -- one more put at the end of a row of puts
 pub puts_push : (Q : Order) (xs ks ys : List ℕ) (k : ℕ) (zs : List ℕ) → Puts Q xs ks ys → Q ys k zs → Puts Q xs (ks ++ (k ∷ [])) zs
@@ -19,11 +20,11 @@ module _ (Q : Order) (lawful : LawfulOrder Q) where
       puts_among_from p.0 ks ys p.2 k
       ∙ ap (λ b. among ks k || b) (among_inserted (lawful.inserts xs j p.0 p.1) k)
       ∙ or_swap (among ks k) (eqb j k) (among xs k)
-      ∙ or_regroup (eqb j k) (among ks k) (among xs k)
+      ∙ sym (or_assoc (eqb j k) (among ks k) (among xs k))
 
   -- after a refill exactly the numbers put in wait
   pub puts_among : (ks ys : List ℕ) → Puts Q [] ks ys → (k : ℕ) → among ys k ≡ among ks k
-  puts_among ks ys p k = puts_among_from [] ks ys p k ∙ or_none (among ks k)
+  puts_among ks ys p k = puts_among_from [] ks ys p k ∙ or-false (among ks k)
 
   -- how many wait after a row of puts
   pub puts_length : (xs ks ys : List ℕ) → Puts Q xs ks ys → length ys ≡ length ks + length xs
@@ -45,7 +46,7 @@ pub select_fresh : (test : ℕ → Bool) (n : ℕ) → among (select test n) n �
 select_fresh test n = select_above test n n (le_refl n)
 
 -- a refill's step where the next number passes: it is put
-pub refill_put : (Q : Order) → LawfulOrder Q → (test : ℕ → Bool) (n : ℕ) (xs : List ℕ) (r : Bool) (ys : List ℕ) → n < 6126 → test n ≡ true
+pub refill_put : (Q : Order) → LawfulOrder Q → (test : ℕ → Bool) (n : ℕ) (xs : List ℕ) (r : Bool) (ys : List ℕ) → n < limit → test n ≡ true
     → Refilled Q (select test n) xs → Put Q xs n r ys → (r ≡ true) × Refilled Q (select test (n + 1)) ys
 refill_put Q lawful test n xs r ys small e p put =
     let new = put.fresh small (puts_among Q lawful (select test n) xs p n ∙ select_fresh test n) in (

@@ -1,10 +1,10 @@
 -- Histories: whole lists of puts and takes, and what a record of them says of the order of waiting.
-use Rattle.std.specs.Prelude.{◌≡◌, ℕ, Bool, true, false, cond, not, ◌&&◌, List, [], ◌∷◌, length, is_some, Some, None, Option, ◌==◌, nat_le, nat_lt}
+use Rattle.std.specs.Prelude.{◌≡◌, ℕ, Bool, true, false, cond, not, ◌&&◌, List, [], ◌∷◌, length, map, is_some, Some, None, Option, ◌==◌, nat_le, nat_lt}
 use Rattle.worklist.specs.declared.serving.Ask.{Ask}
 use Rattle.worklist.specs.declared.serving.Ask.TheVariants.{Clear, Put, Take}
 use Rattle.worklist.specs.declared.serving.Event.{Event}
 use Rattle.worklist.specs.declared.serving.Event.TheVariants.{Cleared, Offered, Took}
-use Rattle.worklist.specs.Orders.{Order, TakenFirst}
+use Rattle.worklist.specs.Orders.{limit, Order, TakenFirst}
 use Rattle.worklist.specs.Orders as orders
 
 -- one event on a worklist in which xs wait, after which ys do
@@ -23,10 +23,6 @@ abbrev pub asking : Event → Ask
 asking Cleared = Clear
 asking (Offered k r) = Put k
 asking (Took o) = Take
-
-abbrev pub asked : List Event → List Ask
-asked [] = []
-asked (e ∷ es) = asking e ∷ asked es
 
 -- the events of the past, the latest first, led from an empty worklist to one in which xs wait
 abbrev pub Led : Order → List Event → List ℕ → Type 0
@@ -58,12 +54,12 @@ last_come k t j u = nat_le u t
 abbrev pub least : Precedence
 least k t j u = nat_le k j
 
--- what an event has to be after the past, whatever the worklist does inside: exactly the numbers below 6,126 that do
+-- what an event has to be after the past, whatever the worklist does inside: exactly the numbers below the limit that do
 -- not wait are put, nothing is handed back only if nothing waits, and what is handed back waits and comes before all
 -- that wait
 abbrev pub Due : Precedence → List Event → Event → Type 0
 Due P past Cleared = Unit {0}
-Due P past (Offered k r) = r ≡ (nat_lt k 6126 && not (is_some (since past k)))
+Due P past (Offered k r) = r ≡ (nat_lt k limit && not (is_some (since past k)))
 Due P past (Took None) = (k : ℕ) → since past k ≡ None
 Due P past (Took (Some k)) = (t : ℕ) × (since past k ≡ Some t) × ((j u : ℕ) → since past j ≡ Some u → P k t j u ≡ true)
 
@@ -78,6 +74,6 @@ Keeps Q P = (past : List Event) (xs : List ℕ) (e : Event) (ys : List ℕ) → 
 
 -- the events es answer to the asks and lead from xs to ys, and each is due, whatever past led to xs
 pub record Served (Q : Order) (P : Precedence) (xs : List ℕ) (asks : List Ask) (es : List Event) (ys : List ℕ) : Type 0 where
-  pub answers : asked es ≡ asks
+  pub answers : map asking es ≡ asks
   pub happens : Steps Q xs es ys
   pub fair : (past : List Event) → Led Q past xs → Fair P past es

@@ -1,48 +1,42 @@
 -- What a record of events says of a lawful worklist, and of what it hands back.
-use Rattle.std.specs.Prelude.{◌≡◌, ℕ, suc, ◌+◌, ◌<◌, Bool, true, false, cond, not, ◌&&◌, ◌||◌, List, [], ◌∷◌, ◌++◌, length, take, is_some, Some, None, Option, ◌==◌, nat_lt, slice_index_or, refl}
+use Rattle.std.specs.Prelude.{◌≡◌, ℕ, suc, ◌+◌, ◌<◌, Bool, true, false, cond, not, ◌&&◌, ◌||◌, List, [], ◌∷◌, ◌++◌, length, take, map, is_some, Some, None, Option, ◌==◌, nat_lt, slice_index_or, refl}
 use Rattle.std.proofs.Common.{sym, ap, subst, ◌∙◌, ⊎_elim, arith}
 use Rattle.std.proofs.lemmas.List.{take_more}
-use Rattle.std.proofs.lemmas.Bool.{both_ways, and_parts, and_from, and_left, and_right, or_cases, or_left, or_right, not-true, not_from_true, not_from_false, eqb-true, eq-eqb, ne_eqb, lt-ltb, le-ltb, cases_Bool, cases_lt, cond-true, cond-false}
-use Rattle.worklist.specs.Orders.{Order, LawfulOrder, Inserted, Put, among, different}
+use Rattle.std.proofs.lemmas.Bool.{both_ways, and_parts, and_from, and_left, and_right, and_cases, or_cases, or_left, or_right, not-true, not-false, not_from_true, not_from_false, eqb-true, eq-eqb, ne_eqb, ltb-true, ltb-false, lt-ltb, le-ltb, cases_Bool, cases_lt, cond-true, cond-false}
+use Rattle.worklist.specs.Orders.{limit, Order, LawfulOrder, Inserted, Put, among, different}
 use Rattle.worklist.specs.declared.serving.Ask.{Ask}
 use Rattle.worklist.specs.declared.serving.Ask.TheVariants.{Clear}
 use Rattle.worklist.specs.declared.serving.Event.{Event}
 use Rattle.worklist.specs.declared.serving.Event.TheVariants.{Cleared, Offered, Took}
-use Rattle.worklist.specs.Histories.{Step, Steps, Led, asking, asked, since, Precedence, Fair, Keeps}
+use Rattle.worklist.specs.Histories.{Step, Steps, Led, asking, since, Precedence, Fair, Keeps}
 use Rattle.worklist.specs.Insertions.{among_inserted, different_inserted}
 
--- what a put that answers yes did
-put_yes : {Q : Order} {xs ys : List ℕ} {k : ℕ} → Put Q xs k true ys → (k < 6126) × (among xs k ≡ false) × Q xs k ys
-put_yes {Q} {xs} {ys} {k} put =
+-- what a put answers
+put_answer : {Q : Order} {xs ys : List ℕ} {k : ℕ} {r : Bool} → Put Q xs k r ys → r ≡ (nat_lt k limit && not (among xs k))
+put_answer {Q} {xs} {ys} {k} {r} put =
     ⊎_elim
-    (λ e. absurd (both_ways true (put.listed e).0 refl))
+    (λ e. (put.listed e).0 ∙ sym (and_right (nat_lt k limit) _ (not_from_true _ e)))
     (λ e. ⊎_elim
-    (λ l. (l, e, (put.fresh l e).1))
-    (λ l. absurd (both_ways true (put.large l).0 refl))
-    (cases_lt k 6126))
+    (λ l. (put.fresh l e).0 ∙ sym (and_from _ _ (lt-ltb k limit l) (not_from_false _ e)))
+    (λ l. (put.large l).0 ∙ sym (and_left _ _ (le-ltb k limit l)))
+    (cases_lt k limit))
     (cases_Bool (among xs k))
+
+-- what a put that answers yes did
+put_yes : {Q : Order} {xs ys : List ℕ} {k : ℕ} → Put Q xs k true ys → (k < limit) × (among xs k ≡ false) × Q xs k ys
+put_yes {Q} {xs} {ys} {k} put =
+    let p = and_parts (nat_lt k limit) (not (among xs k)) (sym (put_answer put)) in
+    let small = ltb-true k limit p.0 in
+    let absent = not-true _ p.1 in
+    (small, absent, (put.fresh small absent).1)
 
 -- a put that answers no leaves the worklist as it was
 put_no : {Q : Order} {xs ys : List ℕ} {k : ℕ} → Put Q xs k false ys → ys ≡ xs
 put_no {Q} {xs} {ys} {k} put =
     ⊎_elim
-    (λ e. (put.listed e).1)
-    (λ e. ⊎_elim
-    (λ l. absurd (both_ways false refl (put.fresh l e).0))
-    (λ l. (put.large l).1)
-    (cases_lt k 6126))
-    (cases_Bool (among xs k))
-
--- what a put answers
-put_answer : {Q : Order} {xs ys : List ℕ} {k : ℕ} {r : Bool} → Put Q xs k r ys → r ≡ (nat_lt k 6126 && not (among xs k))
-put_answer {Q} {xs} {ys} {k} {r} put =
-    ⊎_elim
-    (λ e. (put.listed e).0 ∙ sym (and_right (nat_lt k 6126) _ (not_from_true _ e)))
-    (λ e. ⊎_elim
-    (λ l. (put.fresh l e).0 ∙ sym (and_from _ _ (lt-ltb k 6126 l) (not_from_false _ e)))
-    (λ l. (put.large l).0 ∙ sym (and_left _ _ (le-ltb k 6126 l)))
-    (cases_lt k 6126))
-    (cases_Bool (among xs k))
+    (λ l. (put.large (ltb-false k limit l)).1)
+    (λ e. (put.listed (not-false _ e)).1)
+    (and_cases (nat_lt k limit) (not (among xs k)) (sym (put_answer put)))
 
 -- the record of the past says of each number whether it waits in xs
 pub record Tells (past : List Event) (xs : List ℕ) : Type 0 where
@@ -183,7 +177,7 @@ module _ (Q : Order) (P : Precedence) (apt : Apt Q P) where
   pub keeps : Keeps Q P
   keeps past xs Cleared ys l step = tt
   keeps past xs (Offered k r) ys l step =
-      put_answer step ∙ ap (λ b. nat_lt k 6126 && not b) ((led_tells Q apt.lawful past xs l).waits k)
+      put_answer step ∙ ap (λ b. nat_lt k limit && not b) ((led_tells Q apt.lawful past xs l).waits k)
   keeps past xs (Took None) ys l step =
       λ k. none_of (since past k) (sym ((led_tells Q apt.lawful past xs l).waits k) ∙ ap (λ zs. among zs k) step.0)
   keeps past xs (Took (Some k)) ys l step =
@@ -211,11 +205,12 @@ steps_more Q xs es ys e zs all is steps step =
 
 -- which answers to the next ask
 pub asked_more : (asks : List Ask) (i : ℕ) (es : List Event) (e : Event) (all : List Event)
-    → i < length asks → all ≡ es ++ (e ∷ []) → asked es ≡ take i asks → asking e ≡ slice_index_or asks i Clear → asked all ≡ take (i + 1) asks
+    → i < length asks → all ≡ es ++ (e ∷ []) → map asking es ≡ take i asks → asking e ≡ slice_index_or asks i Clear
+    → map asking all ≡ take (i + 1) asks
 asked_more asks i es e all l is front last =
-    ap asked is ∙ (push es ∙ (ap (λ before. before ++ (asking e ∷ [])) front ∙ (ap (λ a. take i asks ++ (a ∷ [])) last ∙ sym (take_more asks i Clear l))))
+    ap (map asking) is ∙ (push es ∙ (ap (λ before. before ++ (asking e ∷ [])) front ∙ (ap (λ a. take i asks ++ (a ∷ [])) last ∙ sym (take_more asks i Clear l))))
   where
-    push : (ds : List Event) → asked (ds ++ (e ∷ [])) ≡ asked ds ++ (asking e ∷ [])
+    push : (ds : List Event) → map asking (ds ++ (e ∷ [])) ≡ map asking ds ++ (asking e ∷ [])
     push [] = refl
     push (d ∷ ds) = ap (λ rest. asking d ∷ rest) (push ds)
 

@@ -1,7 +1,8 @@
--- The numbers that a table marks, where its first entry is the mark of i.
+-- The numbers that a table marks, where its first entry is the mark of i; and tables that mark exactly the numbers of a list.
 use Rattle.std.specs.Prelude.{◌≡◌, ℕ, zero, suc, ◌+◌, ◌<◌, ◌≤◌, Bool, true, false, ◌||◌, List, [], ◌∷◌, length, ◌==◌, nat_lt, slice_index_or, slice_set, refl}
-use Rattle.std.proofs.Common.{sym, ap, ◌∙◌, arith}
-use Rattle.std.proofs.lemmas.Bool.{both_ways, and_from, or_left, not_from_false, eq-eqb, ne_eqb, lt-ltb, le-ltb, cond-true, cond-false}
+use Rattle.std.proofs.Common.{sym, ap, ◌∙◌, ⊎_elim, arith}
+use Rattle.std.proofs.Math.ListN.{get_or-eq_default}
+use Rattle.std.proofs.lemmas.Bool.{both_ways, and_from, or_left, or_right, not_from_false, eq-eqb, ne_eqb, lt-ltb, le-ltb, cases_lt, cond-true, cond-false}
 use Rattle.worklist.specs.Orders.{among, different, below, insert, marked}
 
 -- no number below i is marked
@@ -41,6 +42,32 @@ below_marked_from i (false ∷ t) n e = below_marked_from (suc i) t n (omega ari
 -- and so in a table of n numbers
 pub below_marked : (n : ℕ) (t : List Bool) → length t ≡ n → below n (marked 0 t) ≡ true
 below_marked n t w = below_marked_from 0 t n (omega arith)
+
+-- the table t says of each number whether it is listed
+abbrev pub Told : List Bool → List ℕ → Type 0
+Told t xs = (k : ℕ) → slice_index_or t k false ≡ among xs k
+
+-- so each listed number is below the table's end
+pub told_small : (t : List Bool) (xs : List ℕ) (k : ℕ) → Told t xs → among xs k ≡ true → k < length t
+told_small t xs k told m =
+    ⊎_elim (λ l. l) (λ past. absurd (both_ways (among xs k) (sym (told k) ∙ get_or-eq_default t false past) m))
+    (cases_lt k (length t))
+
+-- and so is the first one
+pub told_first : (t : List Bool) (xs : List ℕ) (k : ℕ) (ys : List ℕ) → Told t xs → xs ≡ k ∷ ys → k < length t
+told_first t xs k ys told e = told_small t xs k told (ap (λ zs. among zs k) e ∙ or_left (k == k) (among ys k) (eq-eqb k k refl))
+
+-- numbers that are each below n
+below_each : (n : ℕ) (xs : List ℕ) → ((k : ℕ) → among xs k ≡ true → k < n) → below n xs ≡ true
+below_each n [] h = refl
+below_each n (x ∷ xs) h =
+    and_from _ _
+    (lt-ltb x n (h x (or_left (x == x) (among xs x) (eq-eqb x x refl))))
+    (below_each n xs (λ k m. h k (or_right (x == k) (among xs k) m)))
+
+-- as those are that a table of n numbers tells
+pub below_told : (n : ℕ) (t : List Bool) (xs : List ℕ) → length t ≡ n → Told t xs → below n xs ≡ true
+below_told n t xs w told = below_each n xs (λ k m. omega (arith, told_small t xs k told m))
 
 -- a table with no mark marks nothing
 pub marked_none : (i : ℕ) (t : List Bool) → ((k : ℕ) → k < length t → slice_index_or t k false ≡ false) → marked i t ≡ []

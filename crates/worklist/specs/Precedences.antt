@@ -2,10 +2,9 @@
 use Rattle.std.specs.Prelude.{◌≡◌, ℕ, ◌<◌, true, false, List, [], ◌∷◌, ◌++◌, Some, Option, ◌==◌, nat_lt, refl}
 use Rattle.std.proofs.Common.{sym, subst, ◌∙◌, ⊎_elim, le_refl, arith}
 use Rattle.std.proofs.lemmas.Bool.{both_ways, or_cases, or_left, or_right, eqb-true, eq-eqb, ltb-true, ltb-false, leb-true, le-leb, cond_both}
-use Rattle.worklist.specs.Orders.{among, fifo, lifo, lowest, insert}
+use Rattle.worklist.specs.Orders.{LawfulOrder, among, fifo, lifo, lowest, insert}
 use Rattle.worklist.specs.Histories.{Precedence, Keeps, first_come, last_come, least}
-use Rattle.worklist.specs.Orders.{fifo_lawful}
-use Rattle.worklist.specs.Lawful.{lifo_lawful, lowest_lawful}
+use Rattle.worklist.specs.Lawful.{fifo_lawful, lifo_lawful, lowest_lawful}
 use Rattle.worklist.specs.Insertions.{among_inserted}
 use Rattle.worklist.specs.HistoriesLemmas.{Sorted, keeps}
 
@@ -71,29 +70,24 @@ lowest_places s n (x ∷ xs) k new old q =
       rest,
     ))
 
+-- an order under which a put makes one list keeps a precedence if that list is sorted where the old one was
+keeps_by : (F : List ℕ → ℕ → List ℕ) (P : Precedence) → LawfulOrder (λ xs k ys. ys ≡ F xs k) → ((k t : ℕ) → P k t k t ≡ true)
+    → ((s : ℕ → Option ℕ) (n : ℕ) (xs : List ℕ) (k : ℕ) → s k ≡ Some n → Before s n xs → Sorted P s xs → Sorted P s (F xs k))
+    → Keeps (λ xs k ys. ys ≡ F xs k) P
+keeps_by F P lawful even sorted = keeps _ P (record {
+  lawful = lawful;
+  even = even;
+  places = λ s n xs k ys new old q e. subst (Sorted P s) (sym e) (sorted s n xs k new old q);
+})
+
 -- first in, first out
 pub fifo_keeps : Keeps fifo first_come
-fifo_keeps = keeps fifo first_come
-    (record {
-      lawful = fifo_lawful;
-      even = λ k t. le-leb t t (le_refl t);
-      places = λ s n xs k ys new old q e. subst (Sorted first_come s) (sym e) (fifo_places s n xs k new old q);
-    })
+fifo_keeps = keeps_by (λ xs k. xs ++ (k ∷ [])) first_come fifo_lawful (λ k t. le-leb t t (le_refl t)) fifo_places
 
 -- last in, first out
 pub lifo_keeps : Keeps lifo last_come
-lifo_keeps = keeps lifo last_come
-    (record {
-      lawful = lifo_lawful;
-      even = λ k t. le-leb t t (le_refl t);
-      places = λ s n xs k ys new old q e. subst (Sorted last_come s) (sym e) (lifo_places s n xs k new old q);
-    })
+lifo_keeps = keeps_by (λ xs k. k ∷ xs) last_come lifo_lawful (λ k t. le-leb t t (le_refl t)) lifo_places
 
 -- lowest number first
 pub lowest_keeps : Keeps lowest least
-lowest_keeps = keeps lowest least
-    (record {
-      lawful = lowest_lawful;
-      even = λ k t. le-leb k k (le_refl k);
-      places = λ s n xs k ys new old q e. subst (Sorted least s) (sym e) (lowest_places s n xs k new old q);
-    })
+lowest_keeps = keeps_by (λ xs k. insert k xs) least lowest_lawful (λ k t. le-leb k k (le_refl k)) lowest_places

@@ -1,19 +1,21 @@
-// The worklist that gives the lowest number first.
+// The worklist that gives the lowest number first. `as` stands where Rust has no `From`.
 ghost use Rattle.std.specs.Prelude.{◌≡◌, ℕ, ◌<◌, false, [], length, slice_index_or};
-ghost use Rattle.worklist.specs.Orders.{marked, lowest};
+ghost use Rattle.worklist.specs.Orders.{limit, marked, lowest};
 ghost use Rattle.worklist.specs.Lawful.{lowest_lawful};
 ghost use Rattle.worklist.specs.Marked.{different_marked, below_marked};
 
-use crate::Worklist;
 use crate::marks::{mark, next_mark};
+use crate::{CAPACITY, Worklist};
 
 // A table of marks: nothing below `from` is marked, so the takes between two refills go over the table at most once.
+// A byte each and no set: the memory is fixed, and a put must not allocate. With the count beside it, counting and a
+// take where nothing waits look at no entry.
 #[derive(Drop)]
 pub struct Lowest {
-    listed: [bool; 6126],
+    listed: [bool; CAPACITY],
     count: usize,
     from: usize,
-    ghost wide: { length listed ≡ 6126 },
+    ghost wide: { length listed ≡ limit },
     ghost counted: { count ≡ length (marked 0 listed) },
     ghost passed: { (k : ℕ) → k < from → slice_index_or listed k false ≡ false },
 }
@@ -21,10 +23,10 @@ pub struct Lowest {
 impl Lowest {
     // A worklist in which nothing waits.
     pub fn new() -> Lowest
-        ensures empty { marked 0 result.listed ≡ [] }
+        ensures empty { ⟦<Lowest as Worklist>⟧.waiting result ≡ [] }
     {
         Lowest {
-            listed: [false; 6126],
+            listed: [false; CAPACITY],
             count: 0,
             from: 0,
         }
@@ -40,10 +42,10 @@ impl Worklist for Lowest {
 
     ghost apart = { λ l. different_marked 0 l.listed };
 
-    ghost small = { λ l. below_marked 6126 l.listed l.wide };
+    ghost small = { λ l. below_marked limit l.listed l.wide };
 
     fn clear(&mut self) {
-        self.listed = [false; 6126];
+        self.listed = [false; CAPACITY];
         self.count = 0;
         self.from = 0;
     }
@@ -58,12 +60,10 @@ impl Worklist for Lowest {
     }
 
     fn take(&mut self) -> Option<u32> {
-        if self.count == 0 {
-            return None;
-        }
-        let k = next_mark(&self.listed, self.from);
+        let left = self.count.checked_sub(1)?;
+        let k = next_mark(&self.listed, self.from)?;
         self.listed[k] = false;
-        self.count -= 1;
+        self.count = left;
         self.from = k + 1;
         Some(k as u32)
     }

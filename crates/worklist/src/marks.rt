@@ -1,5 +1,5 @@
-// Tables of marks, one for each number.
-ghost use Rattle.std.specs.Prelude.{◌≡◌, ℕ, ◌<◌, ◌≤◌, true, false, length, if◌then◌else◌, slice_index_or, slice_set};
+// Tables of marks, one for each number. `as` stands where Rust has no `From`.
+ghost use Rattle.std.specs.Prelude.{◌≡◌, ◌+◌, true, drop, if◌then◌else◌, option_map, position, slice_set};
 ghost use Rattle.worklist.specs.Orders.{unmarked};
 
 // Marks k, and answers whether that is new: a number past the table's end has no mark.
@@ -8,22 +8,24 @@ pub(crate) fn mark(listed: &mut [bool], k: u32) -> bool
     ensures after { listed.new ≡ (if result then slice_set listed.old k true else listed.old) }
 {
     let at = k as usize;
-    if at >= listed.len() || listed[at] {
-        return false;
+    let new = listed.get(at) == Some(&false);
+    if new {
+        listed[at] = true;
     }
-    listed[at] = true;
-    true
+    new
 }
 
-// The first marked number from `from` on; past the table's end if there is none.
-pub(crate) fn next_mark(listed: &[bool], from: usize) -> usize
-    ensures from_on { from ≤ result }
-    ensures before { (k : ℕ) → from ≤ k → k < result → slice_index_or listed.now k false ≡ false }
-    ensures found { result < length listed.now → slice_index_or listed.now result false ≡ true }
+// The first marked number.
+fn first_mark(listed: &[bool]) -> Option<usize>
+    ensures value { result ≡ position (λ marked. marked) listed.now }
 {
-    let mut at = from;
-    while at < listed.len() && !listed[at] {
-        at += 1;
-    }
-    at
+    listed.iter().position(|marked| *marked)
+}
+
+// The first marked number from `from` on.
+pub(crate) fn next_mark(listed: &[bool], from: usize) -> Option<usize>
+    ensures value { result ≡ option_map (λ k. from + k) (position (λ marked. marked) (drop from listed.now)) }
+{
+    let rest = listed.get(from..)?;
+    Some(from + first_mark(rest)?)
 }

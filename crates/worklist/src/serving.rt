@@ -6,8 +6,8 @@ ghost use Rattle.worklist.specs.Precedences.{fifo_keeps, lifo_keeps, lowest_keep
 use crate::{Fifo, Lifo, Lowest, Worklist};
 use std::alloc::{AllocError, Global};
 
-// What is asked of a worklist.
-#[derive(Clone, Copy)]
+// What is asked of a worklist. Data and no closure, so that a record can say what it answers to.
+#[derive(Clone, Copy, PartialEq, Eq, Debug)]
 pub enum Ask {
     Clear,
     Put(u32),
@@ -31,6 +31,7 @@ pub trait Ordered: Worklist {
     ghost keeps: { Keeps Self.Worklist.order precedence };
 }
 
+// One for each: a single impl for both queues would want the precedence and its law of the end, where they say nothing.
 impl Ordered for Fifo {
     ghost precedence = { first_come };
 
@@ -74,6 +75,7 @@ pub fn serve<L: Ordered>(
         (λ v. Served L.Worklist.order L.precedence (L.Worklist.waiting worklist.old) asks.now v.items (L.Worklist.waiting worklist.new))
         (λ _. worklist.new ≡ worklist.old) }
 {
+    // A `for` and no `collect`: that could run out of memory halfway, and its contract is silent on the worklist's end.
     let mut events = Vec::with_capacity(heap, asks.len())?;
     for ask in asks {
         events.push_reserved(answer_one(worklist, *ask));

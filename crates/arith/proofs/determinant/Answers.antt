@@ -1,21 +1,7 @@
-use Rattle.std.proofs.Common.{◌*◌, ◌^◌, ◌≤◌, ℤ, ◌-ℤ◌, ◌*ℤ◌, nat_abs, mul-le-mul, arith, rules, w64, SFits}
-use Rattle.std.proofs.lemmas.Int.{ints, to_z-of_z}
-use Rattle.arith.proofs.Bound.{abs_product, abs_difference}
+use Rattle.std.proofs.Common.{rules}
+use Rattle.std.proofs.lemmas.Int.{to_z-of_z}
+use Rattle.arith.proofs.Bound.{fits_product, fits_determinant}
 use Rattle.arith.proofs.determinant.Goals as goal
-
--- a product in the determinant is below 2^47
-small_product : (p q : ℤ) → nat_abs p ≤ 32767 → nat_abs q ≤ 2 ^ 32 → nat_abs (p *ℤ q) ≤ 32767 * 2 ^ 32
-small_product p q hp hq = rw (abs_product p q) (mul-le-mul hp hq)
-
-fits_product : (p q : ℤ) → nat_abs p ≤ 32767 → nat_abs q ≤ 2 ^ 32 → SFits w64 (p *ℤ q)
-fits_product p q hp hq = let h = small_product p q hp hq in omega (arith, ints)
-
-fits_determinant : (p q r s : ℤ) → nat_abs p ≤ 32767 → nat_abs q ≤ 2 ^ 32 → nat_abs r ≤ 32767 → nat_abs s ≤ 2 ^ 32 → SFits w64 (p *ℤ q -ℤ r *ℤ s)
-fits_determinant p q r s hp hq hr hs =
-    let h = small_product p q hp hq in
-    let k = small_product r s hr hs in
-    let d = abs_difference (p *ℤ q) (r *ℤ s) in
-    omega (arith, ints)
 
 pub overflow_mul-result : goal.overflow_mul-result
 overflow_mul-result c =

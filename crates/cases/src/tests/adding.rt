@@ -1,26 +1,22 @@
 // What add refuses, and what it writes.
 use super::site::*;
-use mesh::{HalfEdge, Header};
+use mesh::Header;
 use std::test::*;
-
-fn half(origin: u16, twin: u16, pin: u8) -> HalfEdge {
-    HalfEdge { origin, twin, pin }
-}
 
 #[test]
 fn add_refuses_no_mesh(rt: HostRuntime) -> Result<(), Fail> {
     Site::blank(rt.alloc(), 8, 30)?.refuses_vertex(&rt, vertex(2, 1, 0), 4)?;
-    for (s, half_edge) in [
-        (2, half(2, 65535, 0)),
-        (2, half(2, 4, 0)),
-        (2, half(2, 6, 0)),
-        (2, half(2, 3, 1)),
-        (0, half(0, 65535, 1)),
-        (0, half(4, 65535, 0)),
-        (4, half(1, 65535, 0)),
+    for (s, wrong) in [
+        (2, half_edge(2, 65535, 0)),
+        (2, half_edge(2, 4, 0)),
+        (2, half_edge(2, 6, 0)),
+        (2, half_edge(2, 3, 1)),
+        (0, half_edge(0, 65535, 1)),
+        (0, half_edge(4, 65535, 0)),
+        (4, half_edge(1, 65535, 0)),
     ] {
         let mut site = Site::laid(rt.alloc(), 8, 30)?;
-        site.set_half_edge(&rt, s, half_edge)?;
+        site.set_half_edge(&rt, s, wrong)?;
         site.refuses_vertex(&rt, vertex(2, 1, 0), 4)?;
         site.refuses_vertex(&rt, vertex(0, 0, 32768), 4)?;
     }
@@ -64,8 +60,8 @@ fn add_refuses_cut_lists(rt: HostRuntime) -> Result<(), Fail> {
 #[test]
 fn add_refuses_a_pin_of_two(rt: HostRuntime) -> Result<(), Fail> {
     let mut site = Site::laid(rt.alloc(), 8, 30)?;
-    site.set_half_edge(&rt, 2, half(2, 3, 2))?;
-    site.set_half_edge(&rt, 3, half(0, 2, 2))?;
+    site.set_half_edge(&rt, 2, half_edge(2, 3, 2))?;
+    site.set_half_edge(&rt, 3, half_edge(0, 2, 2))?;
     site.refuses_vertex(&rt, vertex(2, 1, 0), 4)
 }
 
@@ -134,11 +130,11 @@ fn all_inner_points_are_taken(rt: HostRuntime) -> Result<(), Fail> {
 #[test]
 fn a_pinned_edge_stays_pinned(rt: HostRuntime) -> Result<(), Fail> {
     let mut site = Site::laid(rt.alloc(), 5, 12)?;
-    site.set_half_edge(&rt, 2, half(2, 3, 1))?;
-    site.set_half_edge(&rt, 3, half(0, 2, 1))?;
+    site.set_half_edge(&rt, 2, half_edge(2, 3, 1))?;
+    site.set_half_edge(&rt, 3, half_edge(0, 2, 1))?;
     site.takes(&rt, vertex(2, 2, 0), 4)?;
-    for (s, half_edge) in site.half_edges.iter().enumerate() {
-        assert_eq!(rt; half_edge.pin == 1, matches!(s, 2 | 3 | 6 | 9));
+    for (s, found) in site.half_edges.iter().enumerate() {
+        assert_eq!(rt; found.pin == 1, matches!(s, 2 | 3 | 6 | 9));
     }
     assert_eq!(rt; site.waiting()?.as_slice(), [0, 2, 3, 4].as_slice());
     Ok(())

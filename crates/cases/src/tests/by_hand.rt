@@ -12,15 +12,11 @@ pub(super) fn dotted(
     vertices: usize,
     half_edges: usize,
 ) -> Result<Site, Fail> {
-    let mut site = Site::blank(heap, vertices, half_edges)?;
-    site.lay(Plan {
-        width: 4,
-        depth: 4,
-        sw: 0,
-        se: 0,
-        ne: 0,
+    let plan = Plan {
         nw: 4,
-    })?;
+        ..flat(4, 4)
+    };
+    let mut site = Site::laid_as(heap, vertices, half_edges, plan)?;
     site.takes(rt, vertex(1, 2, 3), 4)?;
     Ok(site)
 }
@@ -58,13 +54,13 @@ fn a_flip_wants_a_convex_quadrilateral(rt: HostRuntime) -> Result<(), Fail> {
     let mut site = dotted(&rt, heap, 8, 20)?;
     let before = site.state()?;
     for s in [4, 5, 7, 8, 10, 11] {
-        assert_eq!(rt; refused(site.flip(s)), 11);
+        assert_eq!(rt; refused(site.flip(s)), Some(11));
     }
     assert_eq!(rt; site.state()?, before);
     // With a vertex on the diagonal the new faces would be flat.
     let mut site = Site::laid(heap, 8, 20)?;
     site.takes(&rt, vertex(2, 2, 0), 4)?;
-    assert_eq!(rt; refused(site.flip(0)), 11);
+    assert_eq!(rt; refused(site.flip(0)), Some(11));
     Ok(())
 }
 
@@ -72,14 +68,14 @@ fn a_flip_wants_a_convex_quadrilateral(rt: HostRuntime) -> Result<(), Fail> {
 fn a_pin_holds_until_it_is_taken_out(rt: HostRuntime) -> Result<(), Fail> {
     let mut site = dotted(&rt, rt.alloc(), 8, 20)?;
     let free = site.state()?;
-    assert_eq!(rt; refused(site.unpin(2)), 10);
+    assert_eq!(rt; refused(site.unpin(2)), Some(10));
     assert_eq!(rt; site.take(), Some(2));
     assert_eq!(rt; site.pin(3), Ok(2));
     assert!(rt; site.mesh().is_sound());
     // A pin does not refill the worklist.
     assert_eq!(rt; site.waiting()?.len(), 3);
-    assert_eq!(rt; refused(site.pin(2)), 10);
-    assert_eq!(rt; refused(site.flip(3)), 10);
+    assert_eq!(rt; refused(site.pin(2)), Some(10));
+    assert_eq!(rt; refused(site.flip(3)), Some(10));
     assert_eq!(rt; site.waiting()?.len(), 3);
     // An unpin does, and gives the half-edges back.
     assert_eq!(rt; site.unpin(2), Ok(2));

@@ -4,26 +4,22 @@ use cost::combined::{Joint, Scaled};
 use cost::length::Length;
 use cost::{Cost, Fold};
 use job::job::Job;
-use mesh::{HalfEdge, Plan};
+use mesh::Plan;
 use std::alloc::Global;
 use std::process::Abort;
 use std::test::*;
 use worklist::Fifo;
 
-const CAP: u64 = 281474976710656;
+const CAP: u64 = 1 << 48;
 
 // The rectangle with height h at corners 0 and 2, and 0 at the others.
 fn folded(heap: Global, side: u32, h: u32) -> Result<Site, Fail> {
-    let mut site = Site::blank(heap, 4, 6)?;
-    site.lay(Plan {
-        width: side,
-        depth: side,
+    let plan = Plan {
         sw: h,
-        se: 0,
         ne: h,
-        nw: 0,
-    })?;
-    Ok(site)
+        ..flat(side, side)
+    };
+    Site::laid_as(heap, 4, 6, plan)
 }
 
 // Checks what the faces and the edges cost.
@@ -39,13 +35,8 @@ pub(super) fn costs<C: Cost + Drop>(
         worklist: Fifo::new(heap)?,
         lookahead: 0,
     };
-    match job.cost(site.mesh()) {
-        Ok(answer) => {
-            assert_eq!(rt; answer, sums);
-            Ok(())
-        },
-        Err(_) => Err(Fail::new("refused")),
-    }
+    assert_eq!(rt; job.cost(site.mesh()), Ok(sums));
+    Ok(())
 }
 
 fn scaled(weight: u32) -> Scaled<Fold> {
@@ -101,25 +92,12 @@ fn no_part_is_above_the_cap(rt: HostRuntime) -> Result<(), Fail> {
 fn the_question_refuses_no_mesh(rt: HostRuntime) -> Result<(), Fail> {
     let heap = rt.alloc();
     let mut site = folded(heap, 4, 2)?;
-    site.set_half_edge(
-        &rt,
-        2,
-        HalfEdge {
-            origin: 2,
-            twin: 3,
-            pin: 1,
-        },
-    )?;
+    site.set_half_edge(&rt, 2, half_edge(2, 3, 1))?;
     let job = Job {
         cost: Fold {},
         worklist: Fifo::new(heap)?,
         lookahead: 0,
     };
-    match job.cost(site.mesh()) {
-        Ok(_) => Err(Fail::new("taken")),
-        Err(refusal) => {
-            assert_eq!(rt; refusal.number(), 4);
-            Ok(())
-        },
-    }
+    assert_eq!(rt; refused(job.cost(site.mesh())), Some(4));
+    Ok(())
 }

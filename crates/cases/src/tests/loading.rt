@@ -13,12 +13,10 @@ const COLUMNS: &str = "width depth sw se ne nw\n4 4 0 0 0 0\neast north height\n
 
 const ONE: &str = "width depth sw se ne nw\n4 4 0 0 0 0\neast north height\n2 1 7\n";
 
-// Line, field and number of a fault; all 0 if the text is taken.
-fn told(r: Result<u32, Fault>) -> (u32, u32, u32) {
-    match r {
-        Ok(_) => (0, 0, 0),
-        Err(fault) => (fault.line, fault.field, fault.refusal.number()),
-    }
+// Line, field and number of a fault; none if the text is taken.
+fn told(r: Result<u32, Fault>) -> Option<(u32, u32, u32)> {
+    r.err()
+        .map(|fault| (fault.line, fault.field, fault.refusal.number()))
 }
 
 // Checks that a text has this fault and leaves this state.
@@ -30,7 +28,7 @@ fn leaves(
     kept: &State,
 ) -> Result<(), Fail> {
     let mut site = Site::blank(heap, 8, 30)?;
-    assert_eq!(rt; told(site.load(text.as_bytes())), fault, "{}", text);
+    assert_eq!(rt; told(site.load(text.as_bytes())), Some(fault), "{}", text);
     assert_eq!(rt; &site.state()?, kept, "{}", text);
     Ok(())
 }
@@ -148,11 +146,11 @@ fn faults_after_an_add(rt: HostRuntime) -> Result<(), Fail> {
 #[test]
 fn faults_for_want_of_room(rt: HostRuntime) -> Result<(), Fail> {
     for (vertices, half_edges, fault) in [
-        (3, 12, (2, 0, 3)),
-        (5, 5, (2, 0, 3)),
-        (4, 12, (4, 0, 7)),
-        (5, 11, (4, 0, 7)),
-        (5, 12, (0, 0, 0)),
+        (3, 12, Some((2, 0, 3))),
+        (5, 5, Some((2, 0, 3))),
+        (4, 12, Some((4, 0, 7))),
+        (5, 11, Some((4, 0, 7))),
+        (5, 12, None),
     ] {
         let mut site = Site::blank(rt.alloc(), vertices, half_edges)?;
         assert_eq!(rt; told(site.load(ONE.as_bytes())), fault);

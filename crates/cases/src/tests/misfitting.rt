@@ -19,23 +19,18 @@ fn reading(east: u32, north: u32, height: u32) -> Reading {
 
 // A square with its northwest corner raised: face 0 lies at 0, face 1 rises from the diagonal to that corner.
 fn raised(heap: Global, side: u32, nw: u32) -> Result<Site, Fail> {
-    let mut site = Site::blank(heap, 4, 6)?;
-    site.lay(Plan {
-        width: side,
-        depth: side,
-        sw: 0,
-        se: 0,
-        ne: 0,
+    let plan = Plan {
         nw,
-    })?;
-    Ok(site)
+        ..flat(side, side)
+    };
+    Site::laid_as(heap, 4, 6, plan)
 }
 
 // Checks what one reading alone costs the faces.
 fn adds(rt: &impl Abort, heap: Global, site: &Site, one: Reading, faces: u64) -> Result<(), Fail> {
     let readings = [one];
     let misfit = Misfit {
-        readings: &readings[0..1],
+        readings: readings.as_slice(),
     };
     costs(rt, heap, site, misfit, (faces, 0))
 }

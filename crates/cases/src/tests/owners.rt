@@ -1,6 +1,6 @@
-// Every point of a mesh off its south and east borders belongs to exactly one face.
+// Every point of a mesh off its south and east borders belongs to exactly one face. `as` stands where Rust has no `From`.
 use super::site::*;
-use mesh::{MeshRef, Point, Vertex};
+use mesh::{HalfEdge, MeshRef, Point, Vertex};
 use std::alloc::Global;
 use std::process::Abort;
 use std::test::*;
@@ -18,13 +18,10 @@ fn admits(a: Vertex, b: Vertex, w: Point) -> bool {
     area > 0 || (area == 0 && (north < 0 || (north == 0 && east < 0)))
 }
 
-// The vertex where half-edge s starts.
-fn start(mesh: MeshRef, s: usize) -> Result<Vertex, Fail> {
-    let Some(half_edge) = mesh.half_edges.get(s) else {
-        return Err(Fail::new("no such half-edge"));
-    };
-    let Some(vertex) = mesh.vertices.get(half_edge.origin as usize) else {
-        return Err(Fail::new("no such vertex"));
+// The vertex where a half-edge starts.
+fn start(mesh: MeshRef, half_edge: &HalfEdge) -> Result<Vertex, Fail> {
+    let Some(vertex) = mesh.vertices.get(usize::from(half_edge.origin)) else {
+        return Err(Fail::new("no such vertex")); // no `ok_or`, which wants an error that may be dropped
     };
     Ok(*vertex)
 }
@@ -32,11 +29,11 @@ fn start(mesh: MeshRef, s: usize) -> Result<Vertex, Fail> {
 // How many of the faces own w, and the last that does.
 fn owners(mesh: MeshRef, faces: usize, w: Point) -> Result<(u32, usize), Fail> {
     let mut found = (0u32, 0);
-    for f in 0..faces {
-        let s = f.wrapping_mul(3);
-        let a = start(mesh, s)?;
-        let b = start(mesh, s.wrapping_add(1))?;
-        let c = start(mesh, s.wrapping_add(2))?;
+    for (f, sides) in mesh.half_edges.chunks(3).take(faces).enumerate() {
+        let [a, b, c] = sides else {
+            return Err(Fail::new("no such face"));
+        };
+        let (a, b, c) = (start(mesh, a)?, start(mesh, b)?, start(mesh, c)?);
         if admits(a, b, w) && admits(b, c, w) && admits(c, a, w) {
             found = (found.0.saturating_add(1), f);
         }
@@ -53,17 +50,12 @@ fn owned(rt: &impl Abort, site: &Site, w: Point) -> Result<(), Fail> {
     let (count, face) = owners(mesh, faces, w)?;
     if w.north == 0 || w.east >= site.header.width {
         assert_eq!(rt; count, 0);
-        assert_eq!(rt; refused(locate(mesh, w)), 8);
+        assert_eq!(rt; refused(locate(mesh, w)), Some(8));
         return Ok(());
     }
     assert_eq!(rt; count, 1);
-    match locate(mesh, w) {
-        Ok(f) => {
-            assert_eq!(rt; f, face);
-            Ok(())
-        },
-        Err(_) => Err(Fail::new("refused")),
-    }
+    assert_eq!(rt; locate(mesh, w), Ok(face));
+    Ok(())
 }
 
 // A mesh of at most 20 by 20, with vertices added and edges flipped here and there.
@@ -83,19 +75,15 @@ fn grown(rt: &impl Abort, heap: Global, width: u32, depth: u32, seed: u32) -> Re
 
 // Checks every point of a row of the mesh.
 fn row(rt: &impl Abort, site: &Site, north: u32) -> Result<(), Fail> {
-    for east in 0..21 {
-        if east <= site.header.width {
-            owned(rt, site, Point { east, north })?;
-        }
+    for east in 0..=site.header.width.min(20) {
+        owned(rt, site, Point { east, north })?;
     }
     Ok(())
 }
 
 fn tiled(rt: &impl Abort, site: &Site) -> Result<(), Fail> {
-    for north in 0..21 {
-        if north <= site.header.depth {
-            row(rt, site, north)?;
-        }
+    for north in 0..=site.header.depth.min(20) {
+        row(rt, site, north)?;
     }
     Ok(())
 }
@@ -127,6 +115,6 @@ fn no_point_of_an_unsound_mesh_is_located(rt: HostRuntime) -> Result<(), Fail> {
     let mut site = Site::laid(rt.alloc(), 4, 6)?;
     site.header.count = 3;
     let w = Point { east: 1, north: 1 };
-    assert_eq!(rt; refused(locate(site.mesh(), w)), 4);
+    assert_eq!(rt; refused(locate(site.mesh(), w)), Some(4));
     Ok(())
 }

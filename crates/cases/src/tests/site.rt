@@ -1,7 +1,7 @@
-// Lent memory with a job at work on it.
+// Lent memory with a job at work on it. Checks name `rt`, `heap` and the lengths of both lists, so that a reader sees what each uses.
 use cost::Fold;
 use job::job::Job;
-use mesh::{HalfEdge, Header, MeshRef, Plan, Refusal, Vertex};
+use mesh::{HalfEdge, Header, MeshMut, MeshRef, Plan, Refusal, Vertex};
 use std::alloc::{AllocError, Global};
 use std::process::Abort;
 use std::test::*;
@@ -46,12 +46,13 @@ pub(super) fn vertex(east: u32, north: u32, height: u32) -> Vertex {
     }
 }
 
-// The number of a refusal; 0 if the call is taken.
-pub(super) fn refused<T: Drop>(r: Result<T, Refusal>) -> u32 {
-    match r {
-        Ok(_) => 0,
-        Err(refusal) => refusal.number(),
-    }
+pub(super) fn half_edge(origin: u16, twin: u16, pin: u8) -> HalfEdge {
+    HalfEdge { origin, twin, pin }
+}
+
+// The number of a refusal; none if the call is taken.
+pub(super) fn refused<T: Drop>(r: Result<T, Refusal>) -> Option<u32> {
+    r.err().map(Refusal::number)
 }
 
 // All that a call may change.
@@ -95,66 +96,61 @@ impl Site {
         })
     }
 
-    // The flat 4 by 4 mesh, in lists of these lengths.
-    pub(super) fn laid(heap: Global, vertices: usize, half_edges: usize) -> Result<Site, Fail> {
+    // A mesh just laid, in lists of these lengths.
+    pub(super) fn laid_as(
+        heap: Global,
+        vertices: usize,
+        half_edges: usize,
+        plan: Plan,
+    ) -> Result<Site, Fail> {
         let mut site = Site::blank(heap, vertices, half_edges)?;
-        site.lay(flat(4, 4))?;
+        site.lay(plan)?;
         Ok(site)
     }
 
+    // The flat 4 by 4 mesh.
+    pub(super) fn laid(heap: Global, vertices: usize, half_edges: usize) -> Result<Site, Fail> {
+        Site::laid_as(heap, vertices, half_edges, flat(4, 4))
+    }
+
+    // The job, and the mesh that it is lent.
+    fn parts(&mut self) -> (&mut Job<Fold, Fifo>, MeshMut) {
+        let mesh = MeshMut {
+            header: &mut self.header,
+            vertices: &mut self.vertices,
+            half_edges: &mut self.half_edges,
+        };
+        (&mut self.job, mesh)
+    }
+
     pub(super) fn lay(&mut self, plan: Plan) -> Result<u64, Refusal> {
-        self.job.lay(
-            &mut self.header,
-            &mut self.vertices,
-            &mut self.half_edges,
-            plan,
-        )
+        let (job, mut mesh) = self.parts();
+        job.lay(&mut mesh, plan)
     }
 
     pub(super) fn add(&mut self, w: Vertex) -> Result<u32, Refusal> {
-        self.job.add(
-            &mut self.header,
-            &mut self.vertices,
-            &mut self.half_edges,
-            w,
-        )
+        let (job, mut mesh) = self.parts();
+        job.add(&mut mesh, w)
     }
 
     pub(super) fn flip(&mut self, s: u32) -> Result<(u64, u64), Refusal> {
-        self.job.flip(
-            &mut self.header,
-            &mut self.vertices,
-            &mut self.half_edges,
-            s,
-        )
+        let (job, mut mesh) = self.parts();
+        job.flip(&mut mesh, s)
     }
 
     pub(super) fn pin(&mut self, s: u32) -> Result<u32, Refusal> {
-        self.job.pin(
-            &mut self.header,
-            &mut self.vertices,
-            &mut self.half_edges,
-            s,
-        )
+        let (job, mut mesh) = self.parts();
+        job.pin(&mut mesh, s)
     }
 
     pub(super) fn unpin(&mut self, s: u32) -> Result<u32, Refusal> {
-        self.job.unpin(
-            &mut self.header,
-            &mut self.vertices,
-            &mut self.half_edges,
-            s,
-        )
+        let (job, mut mesh) = self.parts();
+        job.unpin(&mut mesh, s)
     }
 
     pub(super) fn load(&mut self, text: &[u8]) -> Result<u32, Fault> {
-        load::load(
-            &mut self.job,
-            &mut self.header,
-            &mut self.vertices,
-            &mut self.half_edges,
-            text,
-        )
+        let (job, mut mesh) = self.parts();
+        load::load(job, &mut mesh, text)
     }
 
     pub(super) fn mesh(&self) -> MeshRef {
@@ -165,6 +161,7 @@ impl Site {
         }
     }
 
+    // This and `set_vertex` write into two lists of two types; a generic one would be longer.
     pub(super) fn set_half_edge(
         &mut self,
         rt: &impl Abort,
@@ -236,6 +233,21 @@ impl Site {
         })
     }
 
+    // Checks that a call is refused with this number and changes nothing.
+    fn refuses<T: Drop, F: FnOnce(&mut Site) -> Result<T, Refusal>>(
+        &mut self,
+        rt: &impl Abort,
+        call: F,
+        number: u32,
+    ) -> Result<(), Fail>
+        requires { F.IsAlwaysCallable call }
+    {
+        let before = self.state()?;
+        assert_eq!(rt; refused(call(self)), Some(number));
+        assert_eq!(rt; self.state()?, before);
+        Ok(())
+    }
+
     // Checks that lay is refused with this number and changes nothing.
     pub(super) fn refuses_plan(
         &mut self,
@@ -243,10 +255,7 @@ impl Site {
         plan: Plan,
         number: u32,
     ) -> Result<(), Fail> {
-        let before = self.state()?;
-        assert_eq!(rt; refused(self.lay(plan)), number);
-        assert_eq!(rt; self.state()?, before);
-        Ok(())
+        self.refuses(rt, |site| site.lay(plan), number)
     }
 
     // Checks that flip, pin and unpin are refused with this number and change nothing.
@@ -256,12 +265,9 @@ impl Site {
         s: u32,
         number: u32,
     ) -> Result<(), Fail> {
-        let before = self.state()?;
-        assert_eq!(rt; refused(self.flip(s)), number);
-        assert_eq!(rt; refused(self.pin(s)), number);
-        assert_eq!(rt; refused(self.unpin(s)), number);
-        assert_eq!(rt; self.state()?, before);
-        Ok(())
+        self.refuses(rt, |site| site.flip(s), number)?;
+        self.refuses(rt, |site| site.pin(s), number)?;
+        self.refuses(rt, |site| site.unpin(s), number)
     }
 
     // Checks that add is refused with this number and changes nothing.
@@ -271,9 +277,6 @@ impl Site {
         w: Vertex,
         number: u32,
     ) -> Result<(), Fail> {
-        let before = self.state()?;
-        assert_eq!(rt; refused(self.add(w)), number);
-        assert_eq!(rt; self.state()?, before);
-        Ok(())
+        self.refuses(rt, |site| site.add(w), number)
     }
 }

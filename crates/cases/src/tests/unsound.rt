@@ -1,12 +1,8 @@
 // Meshes that are none, one for each fact of soundness: every edit by hand is refused by 4 and changes nothing.
 use super::by_hand::dotted;
 use super::site::*;
-use mesh::{HalfEdge, Header};
+use mesh::Header;
 use std::test::*;
-
-fn half_edge(origin: u16, twin: u16, pin: u8) -> HalfEdge {
-    HalfEdge { origin, twin, pin }
-}
 
 #[test]
 fn a_header_out_of_range(rt: HostRuntime) -> Result<(), Fail> {
@@ -94,8 +90,7 @@ fn a_face_that_does_not_turn(rt: HostRuntime) -> Result<(), Fail> {
 fn more_than_four_borders(rt: HostRuntime) -> Result<(), Fail> {
     // The two faces of the rectangle twice over: all but the number of borders is in order.
     let mut site = dotted(&rt, rt.alloc(), 8, 20)?;
-    let mut s = 0;
-    for (origin, twin) in [
+    let twice = [
         (0, 65535),
         (1, 65535),
         (2, 3),
@@ -108,11 +103,9 @@ fn more_than_four_borders(rt: HostRuntime) -> Result<(), Fail> {
         (0, 8),
         (2, 65535),
         (3, 65535),
-    ] {
-        if s < 12 {
-            site.set_half_edge(&rt, s, half_edge(origin, twin, 0))?;
-            s += 1;
-        }
+    ];
+    for (s, (origin, twin)) in twice.into_iter().enumerate() {
+        site.set_half_edge(&rt, s, half_edge(origin, twin, 0))?;
     }
     site.refuses_edits(&rt, 2, 4)
 }

@@ -92,7 +92,7 @@ fn each_order_keeps_to_its_range(rt: HostRuntime) -> Result<(), Fail> {
     keeps_to_its_range(&rt, heap, Lowest::new())
 }
 
-// Puts every number, from the highest down, and checks that the numbers come back rising or falling.
+// Puts every number, from the highest down, and checks that the numbers come back rising or falling. A flag: a closure for the one `if` would be longer.
 fn fills<L: Worklist + Drop>(rt: &impl Abort, mut worklist: L, rising: bool) -> Result<(), Fail> {
     for k in (0..6126).rev() {
         assert!(rt; worklist.put(k));

@@ -1,5 +1,9 @@
-use Rattle.std.proofs.Common.{◌≡◌, ℕ, None, sym, refl, ap, ◌∙◌, arith}
+use Rattle.std.proofs.Common.{◌≡◌, ℕ, Some, None, Option, sym, refl, ap, ◌∙◌}
+use Rattle.std.specs.Option.{ok_or}
 use Rattle.std.proofs.lemmas.Bool.{both_ways, cond-true, cond-false}
+use Rattle.std.proofs.lemmas.Result.{err_from_is_err_and}
+use Rattle.mesh.specs.declared.MeshRef.{MeshRef}
+use Rattle.mesh.specs.declared.Refusal.TheVariants.{Unowned}
 use Rattle.mesh.specs.Meshes.{seen, owner}
 use Rattle.mesh.specs.Sound.{is_sound}
 use Rattle.mesh.proofs.Decide.{sound_passes}
@@ -7,34 +11,30 @@ use Rattle.tiling.specs.Tiles.{located, found}
 use Rattle.tiling.proofs.Tiled.{tiles, owner_found}
 use Rattle.tiling.proofs.locate.Goals as goal
 
-pub returns-then-not-is_sound : goal.returns-then-not-is_sound
+pub returns-in_err-sound : goal.returns-in_err-sound
 unfolding located
-returns-then-not-is_sound c =
-    let no = sym c.is_sound.ensures.test ∙ c.if-not-is_sound.true in
-    record {
-      tiles = tiles;
-      answer = sym (cond-false _ _ _ no);
-      found = λ σ g. absurd (both_ways (is_sound (seen c.args.mesh)) no (sound_passes (seen c.args.mesh) σ));
-    }
-
-pub returns-in-Some : goal.returns-in-Some
-unfolding located
-returns-in-Some c =
-    let yes = sym c.is_sound.ensures.test ∙ c.if-not-is_sound.false in
-    record {
-      tiles = tiles;
-      answer = sym (cond-true _ _ _ yes ∙ ap found (sym c.in-Some.ensures));
-      found = λ σ g. refl;
-    }
-
-pub returns-in-None : goal.returns-in-None
-unfolding located
-returns-in-None c =
+returns-in_err-sound c =
     let m = seen c.args.mesh in
-    let yes = sym c.is_sound.ensures.test ∙ c.if-not-is_sound.false in
-    let none : owner m c.args.w ≡ None = sym c.in-None.ensures in
+    let no = sym c.in_err-sound.ensures.test in
+    let p = err_from_is_err_and c.from_residual.result c.from_residual.ensures.1 in
     record {
       tiles = tiles;
-      answer = sym (cond-true _ _ _ yes ∙ ap found none);
-      found = λ σ g. let f = owner_found m σ c.args.w g in let s = f.1 in let z : ◌≡◌ {A = ℕ} 0 1 = cc in absurd (omega arith);
+      answer = rw (p.1, p.2, c.in_err-sound.ensures.cases) (sym (cond-false _ _ _ no));
+      found = λ σ g. absurd (both_ways (is_sound m) no (sound_passes m σ));
+    }
+
+found_is : (o : Option ℕ) → ok_or o Unowned ≡ found o
+found_is (Some f) = refl
+found_is None = refl
+
+pub returns : goal.returns
+unfolding located
+returns c =
+    let m = seen c.args.mesh in
+    let owner_is : c.owner.result ≡ owner m c.args.w =
+    c.owner.ensures ∙ ap (λ (r : MeshRef). owner (seen r) c.args.w) (c.placed.ensures ∙ c.in_ok-sound.ensures.cases) in
+    record {
+      tiles = tiles;
+      answer = c.ok_or.ensures.value ∙ found_is c.owner.result ∙ ap found owner_is ∙ sym (cond-true _ _ _ (sym c.in_ok-sound.ensures.test));
+      found = λ σ g. let f = owner_found m σ c.args.w g in rw (c.ok_or.ensures.variant, owner_is, f.1) refl;
     }

@@ -1,6 +1,6 @@
 use Rattle.mesh.specs.Edits.{laid}
 use Rattle.mesh.proofs.edits.lay.Goals as goal
 
-pub returns : goal.returns
+pub returns-clause-after : goal.returns-clause-after
 unfolding laid
-returns c = cc
+returns-clause-after c = cc

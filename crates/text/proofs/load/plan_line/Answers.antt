@@ -1,9 +1,9 @@
-use Rattle.std.proofs.Common.{sym, ap, ◌∙◌}
+use Rattle.std.proofs.Common.{sym, ap, ◌∙◌, rules}
 use Rattle.job.specs.declared.Call.TheVariants.{Lay}
-use Rattle.text.specs.Lines.{plan, in_line}
+use Rattle.text.specs.Loads.{fault}
 use Rattle.text.specs.Pieces.{pieces}
-use Rattle.text.specs.Scripts.{halts, from_columns}
-use Rattle.text.proofs.Exits.{exits, asked_err, asked_ok}
+use Rattle.text.specs.Scripts.{halts, asked, from_columns}
+use Rattle.text.proofs.Exits.{exits, was_ok, was_err}
 use Rattle.text.proofs.Scripts.{plan_unended, plan_line}
 use Rattle.text.proofs.load.plan_line.Goals as goal
 
@@ -15,16 +15,19 @@ returns-in_err-one c =
 pub returns-in_err-plan : goal.returns-in_err-plan
 returns-in_err-plan c =
     let cut = c.in_ok-one.ensures in
-    let one = c.in_ok-one.one.now in
     let rest = c.in_ok-one.rest.now in
-    exits _ _ _ c.in_err-plan.field-0.0 c.from_residual-in_err-plan.ensures.1
-    (plan_line c.args.text.now one rest cut.0 cut.1
-    ∙ asked_err Lay 2 (from_columns (pieces 10 rest)) (plan one) _ (c.in_err-plan.ensures ∙ ap (λ r. in_line r 2) c.read_plan.ensures))
+    let f = c.in_err-plan.field-0.0 in
+    let e = was_err (λ g. fault 2 g.field g.refusal) c.read_plan.result c.map_err.result c.map_err.ensures.cases (λ g h k. search rules) f c.in_err-plan.was in
+    exits _ _ _ f c.from_residual-in_err-plan.ensures.1
+    (plan_line c.args.text.now c.in_ok-one.one.now rest cut.0 cut.1
+    ∙ ap (λ r. asked Lay 2 r (from_columns (pieces 10 rest))) (sym c.read_plan.ensures ∙ e.1)
+    ∙ ap halts (sym e.2))
 
 pub returns : goal.returns
 returns c =
     let cut = c.in_ok-one.ensures in
-    let one = c.in_ok-one.one.now in
     let rest = c.in_ok-one.rest.now in
-    plan_line c.args.text.now one rest cut.0 cut.1
-    ∙ asked_ok Lay 2 (from_columns (pieces 10 rest)) (plan one) _ (c.in_ok-plan.ensures ∙ ap (λ r. in_line r 2) c.read_plan.ensures)
+    let plan = c.in_ok-plan.plan in
+    let e = was_ok _ c.read_plan.result c.map_err.result c.map_err.ensures.cases plan c.in_ok-plan.was in
+    plan_line c.args.text.now c.in_ok-one.one.now rest cut.0 cut.1
+    ∙ ap (λ r. asked Lay 2 r (from_columns (pieces 10 rest))) (sym c.read_plan.ensures ∙ e)

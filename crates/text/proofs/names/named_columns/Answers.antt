@@ -1,65 +1,21 @@
-use Rattle.std.proofs.Common.{sym, ◌∙◌}
-use Rattle.text.specs.Lines.{columns}
+use Rattle.std.proofs.Common.{◌≡◌, Option, Some, None, ◌∙◌, find, refl, ap, rules, tests}
+use Rattle.std.specs.Array.Iter.{array_steps, array_into_iter_items}
+use Rattle.std.specs.Option.{option_map}
+use Rattle.std.proofs.lemmas.Iterator.Consumers.{YieldsList-from_shown}
+use Rattle.std.proofs.lemmas.Iterator.Search.{find_from_yields_List}
+use Rattle.std.specs.Str.{bytes_eq}
+use Rattle.text.specs.declared.names.Columns.{Columns}
+use Rattle.text.specs.Lines.{vertex_names, columns}
 use Rattle.text.proofs.names.named_columns.Goals as goal
 
-pub returns-then-is_named : goal.returns-then-is_named
-unfolding columns
-returns-then-is_named c =
-    let e1 = sym c.is_named.ensures ∙ c.if-is_named.true in
-    rw e1
+as_found : (o : Option Columns) → o ≡ option_map (λ x. x) o
+as_found None = refl
+as_found (Some x) = refl
 
-pub returns-then-is_named-2 : goal.returns-then-is_named-2
+pub returns : goal.returns
 unfolding columns
-returns-then-is_named-2 c =
-    let e1 = sym c.is_named.ensures ∙ c.if-is_named.false in
-    let e2 = sym c.is_named-else-is_named.ensures ∙ c.if-is_named-2.true in
-    rw (e1, e2)
-
-pub returns-then-is_named-3 : goal.returns-then-is_named-3
-unfolding columns
-returns-then-is_named-3 c =
-    let e1 = sym c.is_named.ensures ∙ c.if-is_named.false in
-    let e2 = sym c.is_named-else-is_named.ensures ∙ c.if-is_named-2.false in
-    let e3 = sym c.is_named-else-is_named-2.ensures ∙ c.if-is_named-3.true in
-    rw (e1, e2, e3)
-
-pub returns-then-is_named-4 : goal.returns-then-is_named-4
-unfolding columns
-returns-then-is_named-4 c =
-    let e1 = sym c.is_named.ensures ∙ c.if-is_named.false in
-    let e2 = sym c.is_named-else-is_named.ensures ∙ c.if-is_named-2.false in
-    let e3 = sym c.is_named-else-is_named-2.ensures ∙ c.if-is_named-3.false in
-    let e4 = sym c.is_named-else-is_named-3.ensures ∙ c.if-is_named-4.true in
-    rw (e1, e2, e3, e4)
-
-pub returns-then-is_named-5 : goal.returns-then-is_named-5
-unfolding columns
-returns-then-is_named-5 c =
-    let e1 = sym c.is_named.ensures ∙ c.if-is_named.false in
-    let e2 = sym c.is_named-else-is_named.ensures ∙ c.if-is_named-2.false in
-    let e3 = sym c.is_named-else-is_named-2.ensures ∙ c.if-is_named-3.false in
-    let e4 = sym c.is_named-else-is_named-3.ensures ∙ c.if-is_named-4.false in
-    let e5 = sym c.is_named-else-is_named-4.ensures ∙ c.if-is_named-5.true in
-    rw (e1, e2, e3, e4, e5)
-
-pub returns-then-is_named-6 : goal.returns-then-is_named-6
-unfolding columns
-returns-then-is_named-6 c =
-    let e1 = sym c.is_named.ensures ∙ c.if-is_named.false in
-    let e2 = sym c.is_named-else-is_named.ensures ∙ c.if-is_named-2.false in
-    let e3 = sym c.is_named-else-is_named-2.ensures ∙ c.if-is_named-3.false in
-    let e4 = sym c.is_named-else-is_named-3.ensures ∙ c.if-is_named-4.false in
-    let e5 = sym c.is_named-else-is_named-4.ensures ∙ c.if-is_named-5.false in
-    let e6 = sym c.is_named-else-is_named-5.ensures ∙ c.if-is_named-6.true in
-    rw (e1, e2, e3, e4, e5, e6)
-
-pub returns-else-is_named-6 : goal.returns-else-is_named-6
-unfolding columns
-returns-else-is_named-6 c =
-    let e1 = sym c.is_named.ensures ∙ c.if-is_named.false in
-    let e2 = sym c.is_named-else-is_named.ensures ∙ c.if-is_named-2.false in
-    let e3 = sym c.is_named-else-is_named-2.ensures ∙ c.if-is_named-3.false in
-    let e4 = sym c.is_named-else-is_named-3.ensures ∙ c.if-is_named-4.false in
-    let e5 = sym c.is_named-else-is_named-4.ensures ∙ c.if-is_named-5.false in
-    let e6 = sym c.is_named-else-is_named-5.ensures ∙ c.if-is_named-6.false in
-    rw (e1, e2, e3, e4, e5, e6)
+returns c =
+    let all = YieldsList-from_shown array_steps (λ x. x) array_into_iter_items (λ s t e. e.0) (λ s x t e. e) c.into_iter.result in
+    as_found c.find.result
+    ∙ find_from_yields_List (λ o. bytes_eq c.args.line.now (vertex_names o)) _ _ c.find.result c.find.ensures.ran all (λ x b q k. search (rules, tests))
+    ∙ ap (find (λ o. bytes_eq c.args.line.now (vertex_names o))) c.into_iter.ensures.into_iter_gives.0

@@ -1,7 +1,7 @@
-use Rattle.std.proofs.Common.{◌<◌, ◌≤◌, length, sym, arith}
-use Rattle.text.specs.Printing.{number_line, fault_text}
-use Rattle.text.proofs.Overs.{Put, put_more}
-use Rattle.text.proofs.Prints.{printed_short, after_short, answer_put, buffer_put, fault_names, fault_parts, length_fault}
+use Rattle.std.proofs.Common.{◌<◌, ◌≤◌, length, sym, arith, rules}
+use Rattle.text.specs.Printing.{fault_text}
+use Rattle.text.proofs.Overs.{put_more}
+use Rattle.text.proofs.Prints.{printed_short, after_short, answer_put, buffer_put, fault_parts, length_fault}
 use Rattle.text.proofs.report.fault_line.Goals as goal
 
 pub returns-then-buffer-line_length : goal.returns-then-buffer-line_length
@@ -18,8 +18,6 @@ returns c =
     let e = fault_parts c.args.fault c.number-number.result c.number-number.ensures in
     let n = length_fault c.args.fault c.number-number.result c.number-number.ensures in
     let h : length (fault_text c.args.fault) ≤ length c.args.buffer.now = omega (arith, c.line_length.ensures.exact) in
-    let p₁ : Put c.args.buffer.now 0 fault_names c.put_bytes-at.new.buffer c.put_bytes-at.result =
-    record { buffer = c.put_bytes-at.ensures.buffer; end = c.put_bytes-at.ensures.end }
-    in
-    let p₂ = put_more (number_line c.args.fault.line c.args.fault.field c.number-number.result) (omega arith) p₁ c.put_line.ensures.buffer c.put_line.ensures.end in
-    record { answer = answer_put (fault_text c.args.fault) e h p₂; buffer = buffer_put (fault_text c.args.fault) e h p₂ }
+    let p = put_more (omega arith) c.put.ensures.put c.put_line.ensures.put in
+    let b = buffer_put (fault_text c.args.fault) e h p in
+    record { answer = answer_put (fault_text c.args.fault) e h p; buffer = search rules }

@@ -9,5 +9,5 @@ abbrev pub invariant-loop-reading : goal.invariant-loop-reading
 invariant-loop-reading g l =
     (goal.iterator-loop-reading g).can_next l.reading-iterator
     × (goal.iterator-loop-reading g).is_finite l.reading-iterator
-    × (l.sum + misfits l.a l.b l.c (take (take_count l.reading-iterator) (iter_rest (take_source l.reading-iterator)))
-    ≡ misfits l.a l.b l.c (take 4096 (g.R.Readings.list l.self.readings)))
+    × (l.sum + misfits l.face.a l.face.b l.face.c (take (take_count l.reading-iterator) (iter_rest (take_source l.reading-iterator)))
+    ≡ misfits l.face.a l.face.b l.face.c (take 4096 (g.R.Readings.list l.self.readings)))

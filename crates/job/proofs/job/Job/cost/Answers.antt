@@ -1,25 +1,27 @@
-use Rattle.std.proofs.Common.{Ok, sym, ◌∙◌, ap₂}
+use Rattle.std.proofs.Common.{Ok, sym, ap₂, ◌∙◌}
 use Rattle.std.proofs.lemmas.Bool.{cond-true, cond-false}
-use Rattle.mesh.proofs.Decide.{true_T}
-use Rattle.mesh.proofs.Indices.{sound_indexed}
+use Rattle.std.proofs.lemmas.Result.{err_from_is_err_and}
+use Rattle.mesh.specs.declared.MeshRef.{MeshRef}
+use Rattle.mesh.specs.Meshes.{seen}
+use Rattle.cost.specs.Costs.{face_sum, edge_sum}
 use Rattle.cost.proofs.CostLaws.{cost_laws}
 use Rattle.job.specs.Rule.{asked}
 use Rattle.job.proofs.job.Job.cost.Goals as goal
 
-pub returns-then-not-is_sound : goal.returns-then-not-is_sound
+pub returns-in_err-sound : goal.returns-in_err-sound
 unfolding asked
-returns-then-not-is_sound g c = record { laws = cost_laws; sums = sym (cond-false _ _ _ (sym c.is_sound.ensures.test ∙ c.if-not-is_sound.true)) }
-
-pub face_sum-faces-requires : goal.face_sum-faces-requires
-face_sum-faces-requires g c = record { indexed = sound_indexed _ (c.is_sound.ensures.decides.0 (true_T _ c.if-not-is_sound.false)) }
-
-pub edge_sum-edges-requires : goal.edge_sum-edges-requires
-edge_sum-edges-requires g c = record { indexed = sound_indexed _ (c.is_sound.ensures.decides.0 (true_T _ c.if-not-is_sound.false)) }
+returns-in_err-sound g c =
+    let p = err_from_is_err_and c.from_residual.result c.from_residual.ensures.1 in
+    record { laws = cost_laws; sums = rw (p.1, p.2, c.in_err-sound.ensures.cases) (sym (cond-false _ _ _ (sym c.in_err-sound.ensures.test))) }
 
 pub returns : goal.returns
 unfolding asked
-returns g c = record {
-  laws = cost_laws;
-  sums = sym (cond-true _ _ _ (sym c.is_sound.ensures.test ∙ c.if-not-is_sound.false)
-      ∙ sym (ap₂ (λ x y. Ok (x, y)) c.face_sum-faces.ensures.value c.edge_sum-edges.ensures.value));
-}
+returns g c =
+    let K = g.C.Cost.parts c.args.self.now.cost in
+    let same = c.indexed-mesh.ensures ∙ c.in_ok-sound.ensures.cases in
+    record {
+      laws = cost_laws;
+      sums = ap₂ (λ x y. Ok (x, y)) c.face_sum-faces.ensures.value c.edge_sum-edges.ensures.value
+          ∙ ap₂ (λ (r q : MeshRef). Ok (face_sum K (seen r), edge_sum K (seen q))) same same
+          ∙ sym (cond-true _ _ _ (sym c.in_ok-sound.ensures.test));
+    }

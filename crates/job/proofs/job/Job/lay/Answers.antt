@@ -1,38 +1,26 @@
-use Rattle.std.proofs.Common.{refl}
-use Rattle.mesh.specs.Meshes.{mesh}
+use Rattle.std.proofs.Common.{sym, ap, ◌∙◌, subst}
+use Rattle.mesh.specs.Meshes.{Mesh, seen, lent, interior}
+use Rattle.mesh.specs.Sound.{Sound}
+use Rattle.cost.specs.Costs.{total}
+use Rattle.worklist.specs.Orders.{Refilled}
 use Rattle.job.specs.declared.Call.TheVariants.{Lay}
-use Rattle.job.specs.declared.Answer.TheVariants.{Laid}
-use Rattle.job.specs.Rule.{state}
-use Rattle.job.proofs.Refusing.{lay_taken, written_indexed}
-use Rattle.job.proofs.Soundness.{keeps_sound}
+use Rattle.job.specs.Rule.{state_of, refusal}
+use Rattle.job.proofs.Refusing.{lay_taken}
+use Rattle.job.proofs.Soundness.{lay_found}
 use Rattle.job.proofs.job.Job.lay.Goals as goal
 
-pub refill-requires : goal.refill-requires
-refill-requires g c =
-    let long = c.in_ok-check_lay.ensures.1 in
-    let m = mesh c.args.header.now c.args.vertices.now c.args.half_edges.now in
-    let m' = mesh c.lay.new.header c.lay.new.vertices c.lay.new.half_edges in
-    (written_indexed m m' c.args.plan c.lay.ensures long.0 long.1).roomy
+pub invariant_of-laid : goal.invariant_of-laid
+invariant_of-laid g c =
+    let free = ap (λ (m : Mesh). refusal m (Lay c.args.plan)) (sym c.as_ref.ensures) ∙ c.in_ok-check_lay.ensures.0 in
+    record { sound = subst Sound (sym (c.as_ref-2.ensures ∙ c.lay.ensures.after)) (lay_found (lent c.args.mesh.now) c.args.plan free) }
 
-pub total-requires : goal.total-requires
-total-requires g c =
-    let long = c.in_ok-check_lay.ensures.1 in
-    let m = mesh c.args.header.now c.args.vertices.now c.args.half_edges.now in
-    let m' = mesh c.lay.new.header c.lay.new.vertices c.lay.new.half_edges in
-    record { indexed = written_indexed m m' c.args.plan c.lay.ensures long.0 long.1 }
-
-pub returns : goal.returns
-returns g c =
+pub returns-clause-rule : goal.returns-clause-rule
+returns-clause-rule g c =
     let t = g.L.Worklist in
-    let before = state c.args.header.now c.args.vertices.now c.args.half_edges.now (t.waiting c.args.self.now.worklist) in
-    let after = state c.lay.new.header c.lay.new.vertices c.lay.new.half_edges (t.waiting c.refill.new.worklist) in
-    let rule =
-    lay_taken (g.C.Cost.parts c.args.self.now.cost) t.order c.args.self.now.lookahead before after
-    c.args.plan c.total.result c.in_ok-check_lay.ensures.0 c.lay.ensures c.refill.ensures c.total.ensures.value in
-    record {
-      rule = rule;
-      sound = keeps_sound (g.C.Cost.parts c.args.self.now.cost) t.order c.args.self.now.lookahead before after
-          (Lay c.args.plan) (Laid c.total.result) rule;
-      cost = refl {a = c.args.self.now.cost};
-      lookahead = refl {a = c.args.self.now.lookahead};
-    }
+    let K = g.C.Cost.parts c.args.self.now.cost in
+    let free = ap (λ (m : Mesh). refusal m (Lay c.args.plan)) (sym c.as_ref.ensures) ∙ c.in_ok-check_lay.ensures.0 in
+    lay_taken K t.order c.args.self.now.lookahead
+    (state_of (lent c.args.mesh.now) (t.waiting c.args.self.now.worklist)) (state_of (lent c.lay.new.mesh) (t.waiting c.refill.new.worklist))
+    c.args.plan c.total.result free c.lay.ensures.after
+    (subst (λ (m : Mesh). Refilled t.order (interior m) (t.waiting c.refill.new.worklist)) (ap seen c.roomy.ensures ∙ c.as_ref-2.ensures) c.refill.ensures)
+    (c.total.ensures.value ∙ ap (total K) (ap seen c.indexed.ensures ∙ c.as_ref-2.ensures))
