@@ -1,5 +1,5 @@
 -- One step of a loop over 0, 1, .., n - 1 that chooses numbers or sums over them.
-use Rattle.std.proofs.Common.{◌≡◌, ℕ, zero, suc, ◌+◌, ◌*◌, ◌<◌, ◌≤◌, Bool, true, false, cond, List, [], ◌∷◌, ◌++◌, refl, ap, suc-mul, add-one, arith}
+use Rattle.std.proofs.Common.{◌≡◌, ℕ, zero, suc, ◌+◌, ◌*◌, ◌<◌, ◌≤◌, Bool, true, false, cond, List, [], ◌∷◌, ◌++◌, ap, suc-mul, add-one, arith}
 use Rattle.arith.specs.Ranges.{select, sum, sum_over}
 
 -- the next number passes
@@ -29,16 +29,7 @@ sum_over_bounded f test b h (suc n) = by (test n) (sum_over_bounded f test b h n
     by true r = omega (arith, sum_over_push f (select test n) n, h n, suc-mul n b)
     by false r = omega (arith, suc-mul n b)
 
--- the sum over the chosen numbers, where any other counts 0
-pub sum_over_chosen : (f : ℕ → ℕ) (test : ℕ → Bool) (n : ℕ) → sum (λ k. cond (test k) (f k) 0) n ≡ sum_over f (select test n)
-sum_over_chosen f test zero = refl
-sum_over_chosen f test (suc n) = by (test n) (sum_over_chosen f test n)
-  where
-    by : (t : Bool) → sum (λ k. cond (test k) (f k) 0) n ≡ sum_over f (select test n) →
-        sum (λ k. cond (test k) (f k) 0) n + cond t (f n) 0 ≡ sum_over f (cond t (select test n ++ (n ∷ [])) (select test n))
-    by true e = omega (arith, sum_over_push f (select test n) n)
-    by false e = omega arith
-
+-- a chosen number's share is bounded if each number's is
 pub chosen_bounded : (f : ℕ → ℕ) (test : ℕ → Bool) (b : ℕ) → ((k : ℕ) → f k ≤ b) → (k : ℕ) → cond (test k) (f k) 0 ≤ b
 chosen_bounded f test b h k = by (test k)
   where

@@ -1,7 +1,8 @@
-use Rattle.std.proofs.Common.{ℕ, ◌^◌, if◌then◌else◌, ap, ◌∙◌, arith, rules, tests}
+use Rattle.std.proofs.Common.{ℕ, ◌^◌, if◌then◌else◌, sym, ap, ◌∙◌, arith, rules, tests}
 use Rattle.arith.specs.Ranges.{sum}
 use Rattle.arith.proofs.Chains.{sum_fits, sum_from_chain}
-use Rattle.arith.proofs.Rising.{sum_bounded, chosen_bounded, sum_over_chosen}
+use Rattle.arith.proofs.Reindexing.{sum_selected}
+use Rattle.arith.proofs.Rising.{sum_bounded, chosen_bounded}
 use Rattle.mesh.specs.declared.MeshRef.{MeshRef}
 use Rattle.mesh.specs.Meshes.{seen, used, is_edge_number, interior}
 use Rattle.cost.specs.Costs.{edge_cost, edge_sum}
@@ -28,5 +29,5 @@ returns g c =
     let few = c.used.ensures ∙ ap (λ (r : MeshRef). used (seen r)) c.roomy.ensures in
     record {
       value = sum_from_chain _ F c.used.result c.map.ensures.source c.map.ensures.closure (λ x r q k. search (rules, tests)) c.sum.result c.sum.ensures.ran
-          ∙ ap (sum F) few ∙ sum_over_chosen (edge_cost K m) (is_edge_number m) (used m);
+          ∙ ap (sum F) few ∙ sym (sum_selected (edge_cost K m) (is_edge_number m) (used m));
     }
