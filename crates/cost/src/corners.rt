@@ -6,7 +6,7 @@ use arith::{determinant, difference};
 use mesh::checked::CheckedVertex;
 use mesh::geometry::{Side, Triangle};
 
-// The corners of a face, counterclockwise.
+// The corners of a face, in its order.
 #[derive(Clone, Copy)]
 pub struct Face {
     pub a: CheckedVertex,

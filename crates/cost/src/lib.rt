@@ -8,6 +8,7 @@ ghost use Rattle.cost.specs.Lawful.{fold_lawful};
 
 pub mod combined;
 pub mod corners;
+pub mod laws;
 pub mod length;
 pub mod misfit;
 

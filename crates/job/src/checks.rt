@@ -72,46 +72,48 @@ pub fn check_add(mesh: MeshRef, w: Vertex) -> Result<usize, Refusal>
     sound.placed().owner(p).ok_or(Refusal::Unowned)
 }
 
-// Why the edge of half-edge s cannot be edited by hand, whatever the edit; else the mesh, which is sound.
-fn check_edge<'a>(mesh: MeshRef<'a>, s: usize) -> Result<SoundMesh<'a>, Refusal>
-    ensures { Checked (first_fault (edge_faults (seen mesh.entry) s)) result (λ sound. (sound.mesh ≡ mesh.entry) × Editable (seen mesh.entry) s) }
+// Why the edge of half-edge s cannot be edited by hand, whatever the edit. The answers here and below hold no mesh, so
+// that they may be kept while it is written; whoever goes on makes its `SoundMesh` of what is shown.
+fn check_edge(mesh: MeshRef, s: usize) -> Result<(), Refusal>
+    ensures { Checked (first_fault (edge_faults (seen mesh.entry) s)) result (λ _. Editable (seen mesh.entry) s) }
 {
     let sound = mesh.sound()?;
     if !is_interior(sound.roomy(), s) {
         return Err(Refusal::NotInterior);
     }
-    Ok(sound)
+    Ok(())
 }
 
 // Why the edge of half-edge s cannot be pinned.
-pub fn check_pin<'a>(mesh: MeshRef<'a>, s: usize) -> Result<SoundMesh<'a>, Refusal>
-    ensures { Checked (refusal (seen mesh.entry) (Pin s)) result (λ sound. (sound.mesh ≡ mesh.entry) × Editable (seen mesh.entry) s) }
+pub fn check_pin(mesh: MeshRef, s: usize) -> Result<(), Refusal>
+    ensures { Checked (refusal (seen mesh.entry) (Pin s)) result (λ _. Editable (seen mesh.entry) s) }
 {
-    let sound = check_edge(mesh, s)?;
+    check_edge(mesh, s)?;
     if mesh.half_edges[s].is_pinned() {
         return Err(Refusal::PinState);
     }
-    Ok(sound)
+    Ok(())
 }
 
 // Why the edge of half-edge s cannot be flipped: why it cannot be pinned either, or no room for the other diagonal.
-pub fn check_flip<'a>(mesh: MeshRef<'a>, s: usize) -> Result<SoundMesh<'a>, Refusal>
-    ensures { Checked (refusal (seen mesh.entry) (Flip s)) result (λ sound. (sound.mesh ≡ mesh.entry) × Editable (seen mesh.entry) s) }
+pub fn check_flip(mesh: MeshRef, s: usize) -> Result<(), Refusal>
+    ensures { Checked (refusal (seen mesh.entry) (Flip s)) result (λ _. Editable (seen mesh.entry) s) }
 {
-    let sound = check_pin(mesh, s)?;
+    check_pin(mesh, s)?;
+    let sound = SoundMesh { mesh };
     if !is_convex(sound.placed(), s) {
         return Err(Refusal::NotConvex);
     }
-    Ok(sound)
+    Ok(())
 }
 
 // Why the pin of the edge of half-edge s cannot be taken out. No one function with `check_pin`: a flag would hide which is asked.
-pub fn check_unpin<'a>(mesh: MeshRef<'a>, s: usize) -> Result<SoundMesh<'a>, Refusal>
-    ensures { Checked (refusal (seen mesh.entry) (Unpin s)) result (λ sound. (sound.mesh ≡ mesh.entry) × Editable (seen mesh.entry) s) }
+pub fn check_unpin(mesh: MeshRef, s: usize) -> Result<(), Refusal>
+    ensures { Checked (refusal (seen mesh.entry) (Unpin s)) result (λ _. Editable (seen mesh.entry) s) }
 {
-    let sound = check_edge(mesh, s)?;
+    check_edge(mesh, s)?;
     if !mesh.half_edges[s].is_pinned() {
         return Err(Refusal::PinState);
     }
-    Ok(sound)
+    Ok(())
 }

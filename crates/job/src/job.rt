@@ -108,7 +108,9 @@ impl<C: Cost, L: Worklist> Job<C, L> {
         ensures settings { SameSettings self.old self.new }
     {
         let s = s as usize;
-        let sound = check_flip(mesh.as_ref(), s)?;
+        let view = mesh.as_ref();
+        check_flip(view, s)?;
+        let sound = SoundMesh { mesh: view };
         let before = total(&self.cost, sound.indexed());
         let used = sound.roomy().used();
         flips::flip(mesh.half_edges, s, used);

@@ -6,3 +6,4 @@ pub mod Borders
 pub mod Numbers
 pub mod Twins
 pub mod Loans
+pub mod Laid

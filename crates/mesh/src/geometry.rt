@@ -65,7 +65,8 @@ impl Triangle {
         Side { from: a, to: b }.orientation(c) > 0
     }
 
-    // Whether the triangle owns the point w.
+    // Whether the triangle owns the point w. Always inlined: a caller asks one triangle of many points, or many of one.
+    #[inline(always)]
     pub fn owns(self, w: Point) -> bool
         ensures { result ≡ owning self.a self.b self.c w }
     {

@@ -116,6 +116,7 @@ impl<'a> MeshRef<'a> {
     pub fn sound(self) -> Result<SoundMesh<'a>, Refusal>
         ensures test { is_ok result ≡ is_sound (seen self.entry) }
         ensures cases { MatchResult result (λ s. s.mesh ≡ self.entry) (λ r. r ≡ Unsound) }
+        ensures decides { (T (is_ok result) → Sound (seen self.entry)) × (Sound (seen self.entry) → T (is_ok result)) }
     {
         // No `ok_or`: the two ways to be refused stand side by side.
         let Some(placed) = self.placed() else {
@@ -151,12 +152,13 @@ impl<'a> RoomyMesh<'a> {
         2 * (self.mesh.header.count as usize - 3)
     }
 
-    // Whether s is the number of an interior edge: it has a twin, and the twin's number is higher.
+    // Whether s is the number of an interior edge: it has a twin, and the twin's number is higher. None counts as 0, which
+    // no number is below, so that one comparison tells both.
     pub fn is_edge_number(self, s: usize) -> bool
         requires { s < in_use (seen self.mesh) }
         ensures { result ≡ is_edge_number (seen self.entry.mesh) s }
     {
-        self.mesh.half_edges[s].twin().is_some_and(|twin| s < twin)
+        s < self.mesh.half_edges[s].twin().unwrap_or(0)
     }
 
     // Whether vertices 0 to 3 stand at the corners.
@@ -234,6 +236,8 @@ impl<'a> RoomyMesh<'a> {
         }
     }
 
+    // Not inlined: beside the other passes its loop runs short of registers.
+    #[inline(never)]
     fn twins_fit(self) -> bool
         ensures { result ≡ every (twin_fits (seen self.entry.mesh)) (in_use (seen self.entry.mesh)) }
     {
@@ -274,7 +278,7 @@ impl<'a> PlacedMesh<'a> {
     }
 
     // Face f in the plan.
-    pub fn triangle(self, f: usize) -> Triangle
+    pub(crate) fn triangle(self, f: usize) -> Triangle
         requires { f < face_count (seen self.mesh) }
         ensures a { result.a ≡ origin_point (seen self.entry.mesh) (3 * f) }
         ensures b { result.b ≡ origin_point (seen self.entry.mesh) (3 * f + 1) }

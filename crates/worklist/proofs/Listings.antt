@@ -1,5 +1,5 @@
 -- Different numbers beside a table that says which are listed.
-use Rattle.std.proofs.Common.{◌≡◌, ℕ, zero, suc, ◌<◌, Bool, true, false, not, eqb, ltb, List, [], ◌∷◌, length, get_or, set, replicate, sym, refl, ap, ◌∙◌, ⊎_elim, arith}
+use Rattle.std.proofs.Common.{◌≡◌, ℕ, zero, suc, ◌<◌, Bool, true, false, not, ◌||◌, eqb, ltb, List, [], ◌∷◌, ◌++◌, length, get_or, set, replicate, sym, refl, ap, ◌∙◌, ⊎_elim, arith}
 use Rattle.std.specs.List.{AllByRecursion, IsDistinct, list_any}
 use Rattle.std.proofs.lemmas.List.{get_or-set_other, get_or-set_same, length-set, length-replicate}
 use Rattle.std.proofs.lemmas.Map.Steps.{length-le_from_distinct_below}
@@ -14,6 +14,15 @@ pub unmarked_parts : (t : List Bool) (k : ℕ) → true ≡ unmarked t k → (k 
 unmarked_parts t k new =
     let p = and_parts (ltb k (length t)) (not (get_or t k false)) (sym new) in (ltb-true k (length t) p.0, not-true _ p.1)
 
+-- what is among two lists joined
+pub among_append : (xs ys : List ℕ) (k : ℕ) → among (xs ++ ys) k ≡ (among xs k || among ys k)
+among_append [] ys k = refl
+among_append (x ∷ xs) ys k = ap (λ b. eqb x k || b) (among_append xs ys k) ∙ regroup (eqb x k)
+  where
+    regroup : (a : Bool) → (a || (among xs k || among ys k)) ≡ ((a || among xs k) || among ys k)
+    regroup true = refl
+    regroup false = refl
+
 -- what a put answers that goes by the mark
 pub put_answers : (Q : Order) (t : List Bool) (xs : List ℕ) (k : ℕ) (r : Bool) (ys : List ℕ) → length t ≡ limit → Told t xs → r ≡ unmarked t k
     → (r ≡ true → Q xs k ys) → (r ≡ false → ys ≡ xs) → Put Q xs k r ys
@@ -27,9 +36,9 @@ put_answers Q t xs k r ys wide told e put not_put = record {
     refused u = let n = e ∙ u in (n, not_put n)
 
 -- what a queue keeps of its table and its numbers, as its ghost fields after `room` have it
-pub record Kept (t : List Bool) (xs : List ℕ) : Type 0 where
+pub record Kept (n : ℕ) (t : List Bool) (xs : List ℕ) : Type 0 where
   pub alone : different xs ≡ true
-  pub wide : length t ≡ limit
+  pub wide : length t ≡ n
   pub told : Told t xs
 
 -- the table after one entry is written
@@ -48,17 +57,17 @@ unmarked_all (suc n) zero = refl
 unmarked_all (suc n) (suc j) = unmarked_all n j
 
 -- nothing waits, and nothing is marked
-pub kept_none : (xs : List ℕ) → xs ≡ [] → Kept (replicate limit false) xs
-kept_none xs e = record {
+pub kept_none : (n : ℕ) (xs : List ℕ) → xs ≡ [] → Kept n (replicate n false) xs
+kept_none n xs e = record {
   alone = ap different e;
-  wide = length-replicate limit false;
-  told = λ j. unmarked_all limit j ∙ sym (ap (λ l. among l j) e);
+  wide = length-replicate n false;
+  told = λ j. unmarked_all n j ∙ sym (ap (λ l. among l j) e);
 }
 
 -- an unmarked number is put somewhere, and marked
-pub kept_put : (t : List Bool) (xs : List ℕ) (k : ℕ) (ys : List ℕ) → Kept t xs → true ≡ unmarked t k → Inserted xs k ys
-    → Kept (set t k true) ys
-kept_put t xs k ys q new i =
+pub kept_put : (n : ℕ) (t : List Bool) (xs : List ℕ) (k : ℕ) (ys : List ℕ) → Kept n t xs → true ≡ unmarked t k → Inserted xs k ys
+    → Kept n (set t k true) ys
+kept_put n t xs k ys q new i =
     let p = unmarked_parts t k new in record {
       alone = different_inserted i q.alone (sym (q.told k) ∙ p.1);
       wide = length-set t k true ∙ q.wide;
@@ -87,8 +96,8 @@ distinct (x ∷ xs) d =
     let p = and_parts (not (among xs x)) (different xs) d in (others xs x (not-true _ p.0), distinct xs p.1)
 
 -- so a queue finds room for an unmarked number
-pub has_room : (t : List Bool) (xs : List ℕ) (k : ℕ) → Kept t xs → true ≡ unmarked t k → length xs < limit
-has_room t xs k q new =
-    let more = kept_put t xs k (k ∷ xs) q new (lifo_lawful.inserts xs k (k ∷ xs) refl) in
-    length-le_from_distinct_below (k ∷ xs) limit (distinct (k ∷ xs) more.alone)
+pub has_room : (n : ℕ) (t : List Bool) (xs : List ℕ) (k : ℕ) → Kept n t xs → true ≡ unmarked t k → length xs < n
+has_room n t xs k q new =
+    let more = kept_put n t xs k (k ∷ xs) q new (lifo_lawful.inserts xs k (k ∷ xs) refl) in
+    length-le_from_distinct_below (k ∷ xs) n (distinct (k ∷ xs) more.alone)
     (λ j m. let l = told_small (set t k true) (k ∷ xs) j more.told (listed (k ∷ xs) j m) in let w = more.wide in omega arith)

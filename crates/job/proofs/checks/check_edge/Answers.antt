@@ -22,5 +22,5 @@ returns c =
     let same = c.in_ok-sound.ensures.cases in
     let inner = asked (λ (r : MeshRef). is_interior (seen r) c.args.s) (c.roomy.ensures ∙ same) c.is_interior.ensures c.if-not-is_interior.false in (
       edge_refusal (seen c.args.mesh) c.args.s (sym c.in_ok-sound.ensures.test) inner,
-      (same, editable (seen c.args.mesh) c.args.s (subst (λ (r : MeshRef). Sound (seen r)) same c.in_ok-sound.sound.sound) inner),
+      editable (seen c.args.mesh) c.args.s (subst (λ (r : MeshRef). Sound (seen r)) same c.in_ok-sound.sound.sound) inner,
     )
